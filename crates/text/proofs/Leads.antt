@@ -1,0 +1,209 @@
+-- One sequence of RFC 3629: what the code's tests say of it, and what a well-formed one is known by. Assumes nothing.
+use Prim.Native.Nat.{ℕ, suc, _+_, _*_, _%_, _≤_, _<_}
+use mathlib.Core.Path.{_≡_, refl, sym, _∙_}
+use mathlib.Core.Bool.{Bool, true, false}
+use native.Mathlib.Omega.{arith}
+use lib.Dec.{leb, eqb}
+use borrow.Author.Tests.{eq-eqb, le-leb, leb-false, leb-true, lt-leb, ne-eqb}
+use Rattle.laws.proofs.Cases.{both-inv, both-true, never, split, split-eq, within-high, within-inv, within-low, within-yes}
+use Rattle.laws.specs.Bools.{both, pick, within}
+use Rattle.text.specs.Utf8.{fourOf, highOf, leadOf, lowOf, secondFits, seq, seqIf, stepOf, tail, threeOf, twoOf, valueOf, wideOf, width}
+
+pub tail-inv : (b : ℕ) → tail b ≡ true → (0x80 ≤ b) × (b ≤ 0xbf)
+tail-inv b h = within-inv 0x80 0xbf b h
+
+module _ (a b : ℕ) (t : tail b ≡ true) where
+  pub second-e0 : a ≡ 0xe0 → leb 0xa0 b ≡ secondFits a b
+  unfolding secondFits
+  second-e0 e = simp (eq-eqb a 0xe0 e, ne-eqb a 0xed (omega arith), ne-eqb a 0xf4 (omega arith), le-leb b 0xbf (tail-inv b t .1), both-true)
+
+  pub second-f0 : a ≡ 0xf0 → leb 0x90 b ≡ secondFits a b
+  unfolding secondFits
+  second-f0 e = simp (ne-eqb a 0xe0 (omega arith), eq-eqb a 0xf0 e, ne-eqb a 0xed (omega arith), ne-eqb a 0xf4 (omega arith), le-leb b 0xbf (tail-inv b t .1), both-true)
+
+  pub second-ed : a ≡ 0xed → leb b 0x9f ≡ secondFits a b
+  unfolding secondFits
+  second-ed e = simp (ne-eqb a 0xe0 (omega arith), ne-eqb a 0xf0 (omega arith), eq-eqb a 0xed e, le-leb 0x80 b (tail-inv b t .0))
+
+  pub second-f4 : a ≡ 0xf4 → leb b 0x8f ≡ secondFits a b
+  unfolding secondFits
+  second-f4 e = simp (ne-eqb a 0xe0 (omega arith), ne-eqb a 0xf0 (omega arith), ne-eqb a 0xed (omega arith), eq-eqb a 0xf4 e, le-leb 0x80 b (tail-inv b t .0))
+
+  pub second-any : (a ≡ 0xe0 → ⊥) → (a ≡ 0xed → ⊥) → (a ≡ 0xf0 → ⊥) → (a ≡ 0xf4 → ⊥) → true ≡ secondFits a b
+  unfolding secondFits
+  second-any h i j k = simp (ne-eqb a 0xe0 h, ne-eqb a 0xed i, ne-eqb a 0xf0 j, ne-eqb a 0xf4 k, t)
+
+-- the bounds lie within those of a tail byte
+pick-least : (p : Bool) (x y : ℕ) → 0x80 ≤ x → 0x80 ≤ y → 0x80 ≤ pick p x y
+pick-least true x y h k = h
+pick-least false x y h k = k
+
+pick-most : (p : Bool) (x y : ℕ) → x ≤ 0xbf → y ≤ 0xbf → pick p x y ≤ 0xbf
+pick-most true x y h k = h
+pick-most false x y h k = k
+
+low-least : (a : ℕ) → 0x80 ≤ lowOf a
+low-least a = pick-least (eqb a 0xe0) 0xa0 (pick (eqb a 0xf0) 0x90 0x80) (omega arith) (pick-least (eqb a 0xf0) 0x90 0x80 (omega arith) (omega arith))
+
+high-most : (a : ℕ) → highOf a ≤ 0xbf
+high-most a = pick-most (eqb a 0xed) 0x9f (pick (eqb a 0xf4) 0x8f 0xbf) (omega arith) (pick-most (eqb a 0xf4) 0x8f 0xbf (omega arith) (omega arith))
+
+pub second-inv : (a b : ℕ) → secondFits a b ≡ true → (lowOf a ≤ b) × (b ≤ highOf a)
+unfolding secondFits
+second-inv a b h = within-inv (lowOf a) (highOf a) b h
+
+pub second-tail : (a b : ℕ) → secondFits a b ≡ true → tail b ≡ true
+second-tail a b h = let i = second-inv a b h in let l = low-least a in let m = high-most a in within-yes 0x80 0xbf b (omega arith) (omega arith)
+
+pub second-no : (a b : ℕ) → tail b ≡ false → secondFits a b ≡ false
+second-no a b h = split (secondFits a b) (λ e. never (let z = second-tail a b e in cc)) (λ e. e)
+
+pub width-1 : (v : ℕ) → v ≤ 0x7f → width v ≡ 1
+unfolding width
+width-1 v h = simp (le-leb _ _ h)
+
+pub width-2 : (v : ℕ) → 0x7f < v → v ≤ 0x7ff → width v ≡ 2
+unfolding width
+width-2 v h k = simp (lt-leb _ _ h, le-leb _ _ k)
+
+pub width-3 : (v : ℕ) → 0x7ff < v → v ≤ 0xffff → width v ≡ 3
+unfolding width
+width-3 v h k = simp (lt-leb v 0x7f (omega arith), lt-leb _ _ h, le-leb _ _ k)
+
+pub width-4 : (v : ℕ) → 0xffff < v → width v ≡ 4
+unfolding width
+width-4 v h = simp (lt-leb v 0x7f (omega arith), lt-leb v 0x7ff (omega arith), lt-leb _ _ h)
+
+-- a well-formed sequence of four bytes' front: the first byte is no tail, the next ones are, and the scalar is as wide as the sequence
+pub record Whole (a b c d v e : ℕ) : Type 0 where
+  pub wide : width v ≡ suc e
+  pub few : e ≤ 3
+  pub front : tail a ≡ false
+  pub tail-b : 1 ≤ e → tail b ≡ true
+  pub tail-c : 2 ≤ e → tail c ≡ true
+  pub tail-d : 3 ≤ e → tail d ≡ true
+  pub steps : 1 ≤ e → stepOf a ≡ suc e
+  pub some : 1 ≤ e → 0 < v
+
+seq-inv : (p : Bool) (x n v e : ℕ) → seqIf p x n ≡ seq v e → (p ≡ true) × (x ≡ v) × (n ≡ e)
+seq-inv true x n v e h = (refl, (cc), (cc))
+seq-inv false x n v e h = never (cc)
+
+one-whole : (a b c d v e : ℕ) → a ≤ 0x7f → seq a 0 ≡ seq v e → Whole a b c d v e
+one-whole a b c d v e ha h =
+    let ev : a ≡ v = cc in
+    let ee : 0 ≡ e = cc in
+    let k = width-1 v (omega arith) in
+    record {
+      wide = omega arith;
+      few = omega arith;
+      front = within-low 0x80 0xbf a (omega arith);
+      tail-b = λ n. absurd (omega arith);
+      tail-c = λ n. absurd (omega arith);
+      tail-d = λ n. absurd (omega arith);
+      steps = λ n. absurd (omega arith);
+      some = λ n. absurd (omega arith);
+    }
+
+two-whole : (a b c d v e : ℕ) → twoOf a b ≡ seq v e → Whole a b c d v e
+unfolding twoOf
+two-whole a b c d v e h =
+    let i = seq-inv (both (within 0xc2 0xdf a) (tail b)) (a % 32 * 64 + b % 64) 1 v e h in
+    let j = both-inv (within 0xc2 0xdf a) (tail b) (i .0) in
+    let la = within-inv 0xc2 0xdf a (j .0) in
+    let ev = i .1 in
+    let ee = i .2 in
+    let k = width-2 v (omega arith) (omega arith) in
+    record {
+      wide = omega arith;
+      few = omega arith;
+      front = within-high 0x80 0xbf a (omega arith);
+      tail-b = λ n. j .1;
+      tail-c = λ n. absurd (omega arith);
+      tail-d = λ n. absurd (omega arith);
+      steps = λ n. simp (le-leb a 0xdf (la .1)) (omega arith);
+      some = λ n. omega arith;
+    }
+
+low-e0 : (a : ℕ) → a ≡ 0xe0 → lowOf a ≡ 0xa0
+low-e0 a e = simp (eq-eqb _ _ e)
+
+low-f0 : (a : ℕ) → a ≡ 0xf0 → lowOf a ≡ 0x90
+low-f0 a e = simp (ne-eqb a 0xe0 (omega arith), eq-eqb _ _ e)
+
+three-whole : (a b c d v e : ℕ) → threeOf a b c ≡ seq v e → Whole a b c d v e
+unfolding threeOf
+three-whole a b c d v e h =
+    let i = seq-inv (both (within 0xe0 0xef a) (both (secondFits a b) (tail c))) (a % 16 * 4096 + b % 64 * 64 + c % 64) 2 v e h in
+    let j = both-inv (within 0xe0 0xef a) (both (secondFits a b) (tail c)) (i .0) in
+    let k = both-inv (secondFits a b) (tail c) (j .1) in
+    let la = within-inv 0xe0 0xef a (j .0) in
+    let lb = second-inv a b (k .0) in
+    let tb = tail-inv b (second-tail a b (k .0)) in
+    let ev = i .1 in
+    let ee = i .2 in
+    let big : 0x7ff < v = split-eq a 0xe0 (λ t. omega (arith, low-e0 a t)) (λ t. omega arith) in
+    let w = width-3 v big (omega arith) in
+    record {
+      wide = omega arith;
+      few = omega arith;
+      front = within-high 0x80 0xbf a (omega arith);
+      tail-b = λ n. second-tail a b (k .0);
+      tail-c = λ n. k .1;
+      tail-d = λ n. absurd (omega arith);
+      steps = λ n. simp (lt-leb a 0xdf (omega arith), le-leb a 0xef (la .1)) (omega arith);
+      some = λ n. omega arith;
+    }
+
+four-whole : (a b c d v e : ℕ) → fourOf a b c d ≡ seq v e → Whole a b c d v e
+unfolding fourOf
+four-whole a b c d v e h =
+    let i = seq-inv (both (within 0xf0 0xf4 a) (both (secondFits a b) (both (tail c) (tail d)))) (a % 8 * 262144 + b % 64 * 4096 + c % 64 * 64 + d % 64) 3 v e h in
+    let j = both-inv (within 0xf0 0xf4 a) (both (secondFits a b) (both (tail c) (tail d))) (i .0) in
+    let k = both-inv (secondFits a b) (both (tail c) (tail d)) (j .1) in
+    let l = both-inv (tail c) (tail d) (k .1) in
+    let la = within-inv 0xf0 0xf4 a (j .0) in
+    let lb = second-inv a b (k .0) in
+    let tb = tail-inv b (second-tail a b (k .0)) in
+    let ev = i .1 in
+    let ee = i .2 in
+    let big : 0xffff < v = split-eq a 0xf0 (λ t. omega (arith, low-f0 a t)) (λ t. omega arith) in
+    let w = width-4 v big in
+    record {
+      wide = omega arith;
+      few = omega arith;
+      front = within-high 0x80 0xbf a (omega arith);
+      tail-b = λ n. second-tail a b (k .0);
+      tail-c = λ n. l .0;
+      tail-d = λ n. l .1;
+      steps = λ n. simp (lt-leb a 0xdf (omega arith), lt-leb a 0xef (omega arith)) (omega arith);
+      some = λ n. omega arith;
+    }
+
+-- cases on which length the first byte gives
+pub by-lead {ℓ} : {X : Type ℓ} (a b c d : ℕ) → (a ≤ 0x7f → leadOf a b c d ≡ seq a 0 → X) → (0x7f < a → leadOf a b c d ≡ twoOf a b → X)
+    → (0x7f < a → leadOf a b c d ≡ threeOf a b c → X) → (0x7f < a → leadOf a b c d ≡ fourOf a b c d → X) → X
+unfolding leadOf
+by-lead a b c d f g h i =
+    split (leb a 0x7f) (λ t. f (leb-true _ _ t) (simp t))
+    (λ t. split (leb a 0xdf) (λ u. g (leb-false _ _ t) (simp (t, u)))
+    (λ u. split (leb a 0xef) (λ w. h (leb-false _ _ t) (simp (t, u, w))) (λ w. i (leb-false _ _ t) (simp (t, u, w)))))
+
+pub lead-whole : (a b c d v e : ℕ) → leadOf a b c d ≡ seq v e → Whole a b c d v e
+lead-whole a b c d v e h =
+    by-lead a b c d (λ l q. one-whole a b c d v e l (sym q ∙ h)) (λ l q. two-whole a b c d v e (sym q ∙ h))
+    (λ l q. three-whole a b c d v e (sym q ∙ h)) (λ l q. four-whole a b c d v e (sym q ∙ h))
+
+-- from 0x80 on, the sequence by value
+pub wide-lead : (a b c d : ℕ) → 0x7f < a → wideOf a b c d ≡ valueOf (leadOf a b c d)
+unfolding wideOf leadOf
+wide-lead a b c d h = sym (simp (lt-leb a 0x7f h))
+
+-- no sequence that starts from 0x80 on has one byte
+pub value-zero : (a b c d v : ℕ) → 0x7f < a → leadOf a b c d ≡ seq v 0 → ⊥
+unfolding twoOf threeOf fourOf
+value-zero a b c d v hi h =
+    by-lead a b c d (λ l q. omega arith)
+    (λ l q. let i = seq-inv (both (within 0xc2 0xdf a) (tail b)) (a % 32 * 64 + b % 64) 1 v 0 (sym q ∙ h) in let z = i .2 in omega arith)
+    (λ l q. let i = seq-inv (both (within 0xe0 0xef a) (both (secondFits a b) (tail c))) (a % 16 * 4096 + b % 64 * 64 + c % 64) 2 v 0 (sym q ∙ h) in let z = i .2 in omega arith)
+    (λ l q. let i = seq-inv (both (within 0xf0 0xf4 a) (both (secondFits a b) (both (tail c) (tail d)))) (a % 8 * 262144 + b % 64 * 4096 + c % 64 * 64 + d % 64) 3 v 0 (sym q ∙ h) in let z = i .2 in omega arith)
