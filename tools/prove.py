@@ -82,11 +82,11 @@ class Fills:
         for f in sorted(glob.glob(f'crates/{crate}/fills/*.py')):
             exec(compile(open(f).read(), f, 'exec'), {'fill': self.fill})
 
-    def fill(self, fn, answers, head='', macros=(), pre='', lts='Lts'):
-        self.known[fn] = (answers, head, dict(macros), pre, lts)
+    def fill(self, fn, answers, head='', macros=(), pre='', lts='Lts', uses=''):
+        self.known[fn] = (answers, head, dict(macros), pre, lts, uses)
 
     def write(self, fn, skeleton):
-        answers, head, macros, pre, lts = self.known[fn]
+        answers, head, macros, pre, lts, uses = self.known[fn]
         text = re.sub(r'^-- src.*\n', '', skeleton, flags=re.M)
         text = '\n'.join(l for l in text.split('\n') if not re.match(r'use .* as (reads|lts|\S+-reads)$', l))
         steps = places(self.crate, fn, lts)
@@ -103,6 +103,7 @@ class Fills:
         text = re.sub(r'^((?!Inv|μ)[^\n=]*) = \?$', r'\1 = search needs', text, flags=re.M)
         keep = '\n'.join(l for l in text.split('\n') if re.match(r'use \S+\.(Statement\.|Tie as)', l))
         body = '\n'.join(l for l in text.split('\n') if not l.startswith('use ')).lstrip('\n')
+        keep = (uses.strip() + '\n' + keep).strip()
         if pre:
             body = pre.strip('\n') + '\n\n' + body
         made = use_lines(keep + '\n' + body, self.crate, 'proofs', '')

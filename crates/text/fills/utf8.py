@@ -43,11 +43,7 @@ fill('utf8/scalar_at', {
     'add-t5': 'omega (arith, $one$ .room)',
     'returns-4': 'step-scalar _ _ _ _ $one$'},
     macros={'wide': '(@Start .args .s .now) (@Start .args .at) (@if1 .left) (@if2 .left) (@wide .result) (@wide .ensures ∙ wide-bytes _ (@byte-at .ensures) (@byte-at2 .ensures) (@byte-at3 .ensures))',
-            'one': '(wide-one $wide$ (@if3 .left) (@step-of .result) (@step-of .ensures))'},
-    pre='''
-wide-bytes : (a : ℕ) {b b′ c c′ d d′ : ℕ} → b ≡ b′ → c ≡ c′ → d ≡ d′ → wideOf a b c d ≡ wideOf a b′ c′ d′
-wide-bytes a p q r = λ i. wideOf a (p i) (q i) (r i)
-''')
+            'one': '(wide-one $wide$ (@if3 .left) (@step-of .result) (@step-of .ensures))'})
 fill('utf8/second_at', {
     'returns': 'second-none _ _ (step-none _ _ (sym (@scalar-at .ensures) ∙ @enum-told .given .1))',
     'returns-2': '@scalar-at2 .ensures ∙ second-one (@Start .args .s .now) (@Start .args .at) _ _ (step-one _ _ _ _ (sym (@scalar-at .ensures) ∙ @next .given .1))'})

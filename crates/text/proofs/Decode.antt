@@ -132,6 +132,9 @@ pub step-ascii : (s : List ℕ) (at : ℕ) → at < length s → getD s at 0 ≤
 unfolding leadOf
 step-ascii s at h k = step-first s at (getD s at 0) 0 (first-at s at h ∙ simp (le-leb _ _ k))
 
+pub wide-bytes : (a : ℕ) {b b′ c c′ d d′ : ℕ} → b ≡ b′ → c ≡ c′ → d ≡ d′ → wideOf a b c d ≡ wideOf a b′ c′ d′
+wide-bytes a p q r = λ i. wideOf a (p i) (q i) (r i)
+
 -- a longer sequence, by the value that the code finds: 0 where there is none
 module _ (s : List ℕ) (at : ℕ) (h : at < length s) (hi : 0x7f < getD s at 0) (w : ℕ)
     (ew : w ≡ wideOf (getD s at 0) (getD s (at + 1) 0) (getD s (at + 2) 0) (getD s (at + 3) 0)) where

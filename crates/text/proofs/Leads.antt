@@ -207,3 +207,10 @@ value-zero a b c d v hi h =
     (λ l q. let i = seq-inv (both (within 0xc2 0xdf a) (tail b)) (a % 32 * 64 + b % 64) 1 v 0 (sym q ∙ h) in let z = i .2 in omega arith)
     (λ l q. let i = seq-inv (both (within 0xe0 0xef a) (both (secondFits a b) (tail c))) (a % 16 * 4096 + b % 64 * 64 + c % 64) 2 v 0 (sym q ∙ h) in let z = i .2 in omega arith)
     (λ l q. let i = seq-inv (both (within 0xf0 0xf4 a) (both (secondFits a b) (both (tail c) (tail d)))) (a % 8 * 262144 + b % 64 * 4096 + c % 64 * 64 + d % 64) 3 v 0 (sym q ∙ h) in let z = i .2 in omega arith)
+
+-- where the first byte sets no bounds of its own, the second is a tail or does not fit
+pub second-plain : (a b : ℕ) → a < 0xe0 → secondFits a b ≡ false → tail b ≡ false
+second-plain a b h e =
+    split (tail b)
+    (λ t. never (let z = second-any a b t (omega arith) (omega arith) (omega arith) (omega arith) in cc))
+    (λ t. t)

@@ -1,14 +1,9 @@
-use Prim.Native.Nat.{ℕ}
-use mathlib.Core.Path.{_≡_, _∙_}
+use mathlib.Core.Path.{_∙_}
 use native.Mathlib.Omega.{arith}
 use borrow.Author.Needs.{needs}
-use Rattle.text.proofs.Decode.{none-scalar, rest-end, step-ascii, step-scalar, wide-none, wide-one}
-use Rattle.text.specs.Utf8.{wideOf}
+use Rattle.text.proofs.Decode.{none-scalar, rest-end, step-ascii, step-scalar, wide-bytes, wide-none, wide-one}
 use Rattle.text.proofs.utf8.scalar_at.Statement.{statement}
 use Rattle.text.proofs.utf8.scalar_at.Tie as tie
-
-wide-bytes : (a : ℕ) {b b′ c c′ d d′ : ℕ} → b ≡ b′ → c ≡ c′ → d ≡ d′ → wideOf a b c d ≡ wideOf a b′ c′ d′
-wide-bytes a p q r = λ i. wideOf a (p i) (q i) (r i)
 
 returns : tie.Need-returns
 returns c = none-scalar _ _ (rest-end _ _ (c .if1 .taken))
