@@ -1,0 +1,83 @@
+-- Document 01's classes of scalars: White_Space and the word letters are tables of ranges, first and last by turns.
+use Prim.Native.Nat.{ℕ, _+_, _-_}
+use mathlib.Core.List.{List, [], _∷_}
+use mathlib.Core.Bool.{Bool}
+use Rattle.laws.specs.Bools.{either, pick, within}
+use Rattle.laws.specs.Tables.{inRanges}
+
+-- White_Space
+unfoldable pub whiteSpace : List ℕ
+whiteSpace =
+    0x0009 ∷ 0x000d ∷
+    0x0020 ∷ 0x0020 ∷
+    0x0085 ∷ 0x0085 ∷
+    0x00a0 ∷ 0x00a0 ∷
+    0x1680 ∷ 0x1680 ∷
+    0x2000 ∷ 0x200a ∷
+    0x2028 ∷ 0x2028 ∷
+    0x2029 ∷ 0x2029 ∷
+    0x202f ∷ 0x202f ∷
+    0x205f ∷ 0x205f ∷
+    0x3000 ∷ 0x3000 ∷
+    []
+
+abbrev pub isWhiteSpace : ℕ → Bool
+isWhiteSpace v = inRanges whiteSpace v
+
+-- a control (the rule of `'`)
+abbrev pub isControl : ℕ → Bool
+isControl v = either (within 0x0000 0x001f v) (within 0x007f 0x009f v)
+
+-- 0-9
+abbrev pub isDigit : ℕ → Bool
+isDigit v = within 0x30 0x39 v
+
+-- a-f and A-F
+abbrev pub isLowHex : ℕ → Bool
+isLowHex v = within 0x61 0x66 v
+
+abbrev pub isHighHex : ℕ → Bool
+isHighHex v = within 0x41 0x46 v
+
+-- a hex digit
+abbrev pub isHexDigit : ℕ → Bool
+isHexDigit v = either (isDigit v) (either (isLowHex v) (isHighHex v))
+
+-- what a hex digit stands for; 0 for every other scalar
+unfoldable pub hexValue : ℕ → ℕ
+hexValue v = pick (isDigit v) (v - 0x30) (pick (isLowHex v) (v - 0x61 + 10) (pick (isHighHex v) (v - 0x41 + 10) 0))
+
+-- XID_Start up to U+024F; no scalar above is a word letter
+unfoldable pub xidStart : List ℕ
+xidStart =
+    0x0041 ∷ 0x005a ∷
+    0x0061 ∷ 0x007a ∷
+    0x00aa ∷ 0x00aa ∷
+    0x00b5 ∷ 0x00b5 ∷
+    0x00ba ∷ 0x00ba ∷
+    0x00c0 ∷ 0x00d6 ∷
+    0x00d8 ∷ 0x00f6 ∷
+    0x00f8 ∷ 0x024f ∷
+    []
+
+abbrev pub isXidStart : ℕ → Bool
+isXidStart v = inRanges xidStart v
+
+-- XID_Continue adds 0-9, `_` and U+00B7
+unfoldable pub xidContinue : List ℕ
+xidContinue =
+    0x0030 ∷ 0x0039 ∷
+    0x0041 ∷ 0x005a ∷
+    0x005f ∷ 0x005f ∷
+    0x0061 ∷ 0x007a ∷
+    0x00aa ∷ 0x00aa ∷
+    0x00b5 ∷ 0x00b5 ∷
+    0x00b7 ∷ 0x00b7 ∷
+    0x00ba ∷ 0x00ba ∷
+    0x00c0 ∷ 0x00d6 ∷
+    0x00d8 ∷ 0x00f6 ∷
+    0x00f8 ∷ 0x024f ∷
+    []
+
+abbrev pub isXidContinue : ℕ → Bool
+isXidContinue v = inRanges xidContinue v

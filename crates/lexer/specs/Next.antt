@@ -1,0 +1,31 @@
+-- A token of a source: the shebang at position 0, the source's end in refusal 12's span, and the tests 1, 2 and 4 before reading.
+
+-- "`#!` at position 0 of the source: shebang, to before the next LF or the end"
+abbrev pub isShebang : List ℕ → Bool
+isShebang [] = false
+isShebang (v ∷ cs) = both (eqb v 35) (nextIs 33 cs)
+
+abbrev pub shebangOf : Rules → List ℕ → ℕ → Read
+shebangOf R cs p = behindOne R (λ ds q. behindOne R (lineOf R Shebang p) ds q) cs p
+
+-- 12's span ends at the source's end n
+abbrev pub closeSpan : ℕ → Read → Read
+closeSpan n (Got k) = Got k
+closeSpan n (Refused r) = pick (eqb (r .number) 12) (refusedOf 12 (r .span .start) n (r .reached)) (Refused r)
+
+-- the token at the place p of a source that ends at n, cs being the scalars from p on
+unfoldable pub nextOf : Rules → ℕ → List ℕ → ℕ → Read
+nextOf R n cs p = pick (both (eqb p 0) (isShebang cs)) (shebangOf R cs p) (closeSpan n (tokenOf R 64 cs p))
+
+unfoldable pub nextAt : List ℕ → ℕ → Read
+nextAt s at = nextOf base (length s) (rest s at) at
+
+-- "Order: 1, 2, 4, then reading"
+unfoldable pub readAt : List ℕ → ℕ → Read
+readAt s at =
+    elim (positionTest s at) [
+      | Sound ↦ nextAt s at
+      | TooLong ↦ refusedOf 1 0 0 0
+      | IllFormed p ↦ refusedOf 2 p p p
+      | Misplaced p ↦ refusedOf 4 p p p
+    ]

@@ -1,0 +1,111 @@
+-- What the code's tests say of each reader's step, in the order of the readers. Assumes nothing.
+
+pub run-yes : (f : ℕ → Bool) (v : ℕ) (cs : List ℕ) → f v ≡ true → runStep f tt v cs ≡ on tt
+run-yes f v cs h = rw h
+
+pub run-no : (f : ℕ → Bool) (v : ℕ) (cs : List ℕ) → f v ≡ false → runStep f tt v cs ≡ before tt
+run-no f v cs h = rw h
+
+-- the code's flag: the last scalar was a star
+abbrev pub commentAt : Bool → Comments
+commentAt true = star
+commentAt false = skips 0
+
+pub comment-close : (v : ℕ) (cs : List ℕ) → v ≡ 47 → commentStep star v cs ≡ behind star
+unfolding commentStep
+comment-close v cs h = rw (eq-eqb v 47 h, commentStep)
+
+pub comment-more : (b : Bool) (v : ℕ) (cs : List ℕ) → (b ≡ true → v ≡ 47 → ⊥) → commentStep (commentAt b) v cs ≡ on (commentAt (eqb v 42))
+unfolding commentStep
+comment-more true v cs h = split (eqb v 42) (λ e. rw (ne-eqb v 47 (h refl), e, commentStep)) (λ e. rw (ne-eqb v 47 (h refl), e, commentStep))
+comment-more false v cs h = split (eqb v 42) (λ e. rw (e, commentStep)) (λ e. rw (e, commentStep))
+
+module _ (v : ℕ) (cs : List ℕ) where
+  pub byte-slash : v ≡ 92 → byteStep body v cs ≡ on slash
+  unfolding byteStep
+  byte-slash h = rw (eq-eqb v 92 h, byteStep)
+
+  module _ (n : v ≡ 92 → ⊥) where
+    pub byte-close : v ≡ 39 → byteStep body v cs ≡ behind body
+    unfolding byteStep
+    byte-close h = rw (ne-eqb v 92 n, eq-eqb v 39 h, byteStep)
+
+    module _ (m : v ≡ 39 → ⊥) where
+      pub byte-control : isControl v ≡ true → byteStep body v cs ≡ behind control
+      unfolding byteStep
+      byte-control h = rw (ne-eqb v 92 n, ne-eqb v 39 m, h, byteStep)
+
+      pub byte-more : isControl v ≡ false → byteStep body v cs ≡ on body
+      unfolding byteStep
+      byte-more h = rw (ne-eqb v 92 n, ne-eqb v 39 m, h, byteStep)
+
+module _ (e : Bool) (v : ℕ) (cs : List ℕ) where
+  pub str-close : v ≡ 34 → strStep (text e) v cs ≡ behind (text e)
+  unfolding strStep
+  str-close h = rw (eq-eqb v 34 h, strStep)
+
+  module _ (n : v ≡ 34 → ⊥) where
+    pub str-slash : v ≡ 92 → strStep (text e) v cs ≡ on (slashed e)
+    unfolding strStep
+    str-slash h = rw (ne-eqb v 34 n, eq-eqb v 92 h, strStep)
+
+    pub str-more : (v ≡ 92 → ⊥) → strStep (text e) v cs ≡ on (text e)
+    unfolding strStep
+    str-more h = rw (ne-eqb v 34 n, ne-eqb v 92 h, strStep)
+
+-- the code's flag: no `.` was taken yet
+abbrev pub digitsAt : Bool → Digits
+digitsAt true = whole
+digitsAt false = part
+
+module _ (v : ℕ) (cs : List ℕ) where
+  pub number-more : (b : Bool) → inNumber v ≡ true → numberStep (digitsAt b) v cs ≡ on (digitsAt b)
+  unfolding numberStep
+  number-more true h = rw (h, numberStep)
+  number-more false h = rw (h, numberStep)
+
+  module _ (n : inNumber v ≡ false) where
+    pub number-part : numberStep part v cs ≡ before part
+    unfolding numberStep
+    number-part = rw (n, numberStep)
+
+    pub number-other : (v ≡ 46 → ⊥) → numberStep whole v cs ≡ before whole
+    unfolding numberStep
+    number-other h = rw (n, ne-eqb v 46 h, numberStep)
+
+    pub number-bare : v ≡ 46 → beginsDigit cs ≡ false → numberStep whole v cs ≡ before whole
+    unfolding numberStep
+    number-bare h k = rw (n, eq-eqb v 46 h, k, numberStep)
+
+    pub number-dot : v ≡ 46 → beginsDigit cs ≡ true → numberStep whole v cs ≡ on part
+    unfolding numberStep
+    number-dot h k = rw (n, eq-eqb v 46 h, k, numberStep)
+
+module _ (l m : Bool) (v : ℕ) (cs : List ℕ) where
+  pub char-close : v ≡ 39 → charStep (letters l m) v cs ≡ behind (shut m)
+  unfolding charStep
+  char-close h = rw (ne-eqb v 92 (omega arith), eq-eqb v 39 h, charStep)
+
+  module _ (q : v ≡ 39 → ⊥) where
+    pub char-slash : v ≡ 92 → charStep (letters l m) v cs ≡ on escape
+    unfolding charStep
+    char-slash h = rw (eq-eqb v 92 h, charStep)
+
+    module _ (n : v ≡ 92 → ⊥) where
+      pub char-letter : inLabel v ≡ true → charStep (letters l m) v cs ≡ on (letters l true)
+      unfolding charStep
+      char-letter h = rw (ne-eqb v 92 n, ne-eqb v 39 q, h, charStep)
+
+      module _ (k : inLabel v ≡ false) where
+        pub char-control : isControl v ≡ true → charStep (letters l m) v cs ≡ before broken
+        unfolding charStep
+        char-control h = rw (ne-eqb v 92 n, ne-eqb v 39 q, k, h, charStep)
+
+        module _ (i : isControl v ≡ false) where
+          pub char-stop : both l m ≡ true → charStep (letters l m) v cs ≡ before (letters l m)
+          unfolding charStep
+          char-stop h = rw (ne-eqb v 92 n, ne-eqb v 39 q, k, i, h, charStep)
+
+          pub char-other : both l m ≡ false → charStep (letters l m) v cs ≡ on (letters false true)
+          unfolding charStep
+          char-other h = rw (ne-eqb v 92 n, ne-eqb v 39 q, k, i, h, charStep)

@@ -1,0 +1,158 @@
+-- Document 01, "How one token is read", rule by rule in its order. Each reader takes the scalars behind a token's opening, their place,
+-- and the place a where the token started; a refusal's numbers and places are those of "Refusal numbers and places".
+
+-- the place where the longest run of scalars that pass a test ends
+abbrev pub runStep : (ℕ → Bool) → Unit {0} → ℕ → List ℕ → Act (Unit {0})
+runStep f s v cs = pick (f v) (on tt) (before tt)
+
+unfoldable pub run : Rules → (ℕ → Bool) → List ℕ → ℕ → ℕ
+run R f cs p = scan (runStep f) R tt p cs p .place
+
+-- "White_Space: the longest run"
+unfoldable pub whiteOf : Rules → ℕ → List ℕ → ℕ → Read
+whiteOf R a cs p = gotOf Whitespace a (run R isWhiteSpace cs p)
+
+-- "`//`: to before LF or the end", and the shebang's end
+abbrev pub inLine : ℕ → Bool
+inLine v = not (eqb v 10)
+
+unfoldable pub lineOf : Rules → Kind → ℕ → List ℕ → ℕ → Read
+lineOf R k a cs p = gotOf k a (run R inLine cs p)
+
+-- the place behind the first of the scalars
+abbrev pub passOne : Rules → List ℕ → ℕ → ℕ
+passOne R [] p = p
+passOne R (v ∷ cs) p = p + R .wide v
+
+-- "`/*`: the next two scalars are skipped; then the first `*/` closes. With none, kind 4 to the end."
+pub data Comments : Type 0 where
+  skips : ℕ → Comments
+  star : Comments
+
+unfoldable pub commentStep : Comments → ℕ → List ℕ → Act Comments
+commentStep (skips (suc k)) v cs = on (skips k)
+commentStep (skips zero) v cs = pick (eqb v 42) (on star) (on (skips 0))
+commentStep star v cs = pick (eqb v 47) (behind star) (pick (eqb v 42) (on star) (on (skips 0)))
+
+abbrev pub closedBy : How → Bool
+closedBy ended = false
+closedBy short = false
+closedBy full = true
+
+unfoldable pub commentOf : Rules → ℕ → List ℕ → ℕ → Read
+commentOf R a cs p =
+    let o = scan commentStep R (skips (R .skip)) p cs p in gotOf (MultilineComment (closedBy (o .how))) a (o .place)
+
+-- "`b'`: one scalar is skipped untested; then scalars to the next `'`. A backslash met in this walk takes one more scalar."
+pub data Bytes : Type 0 where
+  fresh : Bytes
+  body : Bytes
+  slash : Bytes
+  control : Bytes
+
+unfoldable pub byteStep : Bytes → ℕ → List ℕ → Act Bytes
+byteStep fresh v cs = on body
+byteStep body v cs = pick (eqb v 92) (on slash) (pick (eqb v 39) (behind body) (pick (isControl v) (behind control) (on body)))
+byteStep slash v cs = on body
+byteStep control v cs = behind control
+
+-- 10 after a backslash, 15 at a control, 14 at the end
+abbrev pub byteAnswer : ℕ → Bytes → ℕ → ℕ → How → Read
+byteAnswer a slash l p h = refusedOf 10 l p p
+byteAnswer a control l p h = refusedOf 15 a p p
+byteAnswer a fresh l p h = refusedOf 14 a p p
+byteAnswer a body l p full = gotOf Byte a p
+byteAnswer a body l p ended = refusedOf 14 a p p
+byteAnswer a body l p short = refusedOf 14 a p p
+
+unfoldable pub byteOf : Rules → ℕ → List ℕ → ℕ → Read
+byteOf R a cs p = let o = scan byteStep R fresh p cs p in byteAnswer a (o .state) (o .last) (o .place) (o .how)
+
+-- "`b"` and `"`: to the next `"`; a backslash takes one more scalar."
+pub data Quoted : Type 0 where
+  text : Bool → Quoted
+  slashed : Bool → Quoted
+
+unfoldable pub strStep : Quoted → ℕ → List ℕ → Act Quoted
+strStep (text e) v cs = pick (eqb v 34) (behind (text e)) (pick (eqb v 92) (on (slashed e)) (on (text e)))
+strStep (slashed e) v cs = on (text true)
+
+-- the kind and refusal of a string, and of a byte string
+abbrev pub strKind : Bool → Bool → Kind
+strKind false e = Str e
+strKind true e = ByteStr e
+
+abbrev pub strNumber : Bool → ℕ
+strNumber false = 16
+strNumber true = 17
+
+-- 10 after a backslash, 16 or 17 at the end
+abbrev pub strAnswer : Bool → ℕ → Quoted → ℕ → ℕ → How → Read
+strAnswer b a (slashed e) l p h = refusedOf 10 l p p
+strAnswer b a (text e) l p full = gotOf (strKind b e) a p
+strAnswer b a (text e) l p ended = refusedOf (strNumber b) a p p
+strAnswer b a (text e) l p short = refusedOf (strNumber b) a p p
+
+unfoldable pub strOf : Rules → Bool → ℕ → List ℕ → ℕ → Read
+strOf R b a cs p = let o = scan strStep R (text false) p cs p in strAnswer b a (o .state) (o .last) (o .place) (o .how)
+
+-- "Words: `_` or XID_Start, then XID_Continue"; a lone `_` is kind 7
+abbrev pub startsWord : Rules → ℕ → Bool
+startsWord R v = either (eqb v 95) (R .start v)
+
+unfoldable pub wordOf : Rules → ℕ → ℕ → List ℕ → ℕ → Read
+wordOf R v a cs p = let e = run R (R .continue) cs p in gotOf (pick (both (eqb v 95) (eqb e p)) Underscore Ident) a e
+
+-- "Numbers: a digit, then the longest run of ASCII letters, digits and `_`; one `.` directly followed by a digit is taken with its run, at most once"
+abbrev pub inNumber : ℕ → Bool
+inNumber v = either (isDigit v) (either (within 65 90 v) (either (within 97 122 v) (eqb v 95)))
+
+abbrev pub beginsDigit : List ℕ → Bool
+beginsDigit [] = false
+beginsDigit (v ∷ cs) = isDigit v
+
+pub data Digits : Type 0 where
+  whole : Digits
+  part : Digits
+
+unfoldable pub numberStep : Digits → ℕ → List ℕ → Act Digits
+numberStep whole v cs = pick (inNumber v) (on whole) (pick (both (eqb v 46) (beginsDigit cs)) (on part) (before whole))
+numberStep part v cs = pick (inNumber v) (on part) (before part)
+
+unfoldable pub numberLitOf : Rules → ℕ → List ℕ → ℕ → Read
+numberLitOf R a cs p = gotOf Number a (scan numberStep R whole p cs p .place)
+
+-- "`'`: a count at 0, "label" true ..": the first flag is "label", the second says that the count is above 0
+pub data Chars : Type 0 where
+  letters : Bool → Bool → Chars
+  escape : Chars
+  shut : Bool → Chars
+  broken : Chars
+
+abbrev pub inLabel : ℕ → Bool
+inLabel v = either (isDigit v) (within 97 122 v)
+
+unfoldable pub charStep : Chars → ℕ → List ℕ → Act Chars
+charStep (letters l n) v cs =
+    pick (eqb v 92) (on escape)
+    (pick (eqb v 39) (behind (shut n))
+    (pick (inLabel v) (on (letters l true))
+    (pick (isControl v) (before broken)
+    (pick (both l n) (before (letters l n)) (on (letters false true))))))
+charStep escape v cs = on (letters false true)
+charStep (shut n) v cs = behind (shut n)
+charStep broken v cs = before broken
+
+-- 10 after a backslash, 11 before a control, 12 for `''` (its span's end is the source's, which the caller adds), 13 for `'` at the end
+abbrev pub charAnswer : ℕ → Chars → ℕ → ℕ → Read
+charAnswer a escape l p = refusedOf 10 l p p
+charAnswer a broken l p = refusedOf 11 a p p
+charAnswer a (shut false) l p = refusedOf 12 a p p
+charAnswer a (shut true) l p = gotOf Char a p
+charAnswer a (letters false false) l p = refusedOf 12 a p p
+charAnswer a (letters true false) l p = refusedOf 13 a p p
+charAnswer a (letters false true) l p = gotOf Char a p
+charAnswer a (letters true true) l p = gotOf Label a p
+
+unfoldable pub charOf : Rules → ℕ → List ℕ → ℕ → Read
+charOf R a cs p = let o = scan charStep R (letters true false) p cs p in charAnswer a (o .state) (o .last) (o .place)
