@@ -1,2 +1,4 @@
 pub mod Leads
 pub mod Decode
+pub mod Rows
+pub mod Round
