@@ -29,7 +29,7 @@ there (a ∷ s) (suc i) h = let k = there s i h in omega arith
 tail-there : (s : List ℕ) (i : ℕ) → tail (getD s i 0) ≡ true → i < length s
 tail-there s i h = let k = tail-inv (getD s i 0) h in there s i (omega arith)
 
-first-whole : (t : List ℕ) (v e : ℕ) → first t ≡ seq v e → (width v ≡ suc e) × (suc e ≤ length t)
+pub first-whole : (t : List ℕ) (v e : ℕ) → first t ≡ seq v e → (width v ≡ suc e) × (suc e ≤ length t)
 unfolding first
 first-whole [] v e h = never (cc)
 first-whole (a ∷ t) v e h =

@@ -89,6 +89,58 @@ seq-inv : (p : Bool) (x n v e : ℕ) → seqIf p x n ≡ seq v e → (p ≡ true
 seq-inv true x n v e h = (refl, (cc), (cc))
 seq-inv false x n v e h = never (cc)
 
+-- what a sequence of two, three, four bytes is known by
+pub record Two (a b v e : ℕ) : Type 0 where
+  pub low : 0xc2 ≤ a
+  pub high : a ≤ 0xdf
+  pub tail-b : tail b ≡ true
+  pub value : a % 32 * 64 + b % 64 ≡ v
+  pub more : 1 ≡ e
+
+pub record Three (a b c v e : ℕ) : Type 0 where
+  pub low : 0xe0 ≤ a
+  pub high : a ≤ 0xef
+  pub fits : secondFits a b ≡ true
+  pub tail-c : tail c ≡ true
+  pub value : a % 16 * 4096 + b % 64 * 64 + c % 64 ≡ v
+  pub more : 2 ≡ e
+
+pub record Four (a b c d v e : ℕ) : Type 0 where
+  pub low : 0xf0 ≤ a
+  pub high : a ≤ 0xf4
+  pub fits : secondFits a b ≡ true
+  pub tail-c : tail c ≡ true
+  pub tail-d : tail d ≡ true
+  pub value : a % 8 * 262144 + b % 64 * 4096 + c % 64 * 64 + d % 64 ≡ v
+  pub more : 3 ≡ e
+
+pub two-inv : (a b v e : ℕ) → twoOf a b ≡ seq v e → Two a b v e
+unfolding twoOf
+two-inv a b v e h =
+    let i = seq-inv (both (within 0xc2 0xdf a) (tail b)) (a % 32 * 64 + b % 64) 1 v e h in
+    let j = both-inv (within 0xc2 0xdf a) (tail b) (i .0) in
+    let l = within-inv 0xc2 0xdf a (j .0) in
+    record { low = l .0; high = l .1; tail-b = j .1; value = i .1; more = i .2 }
+
+pub three-inv : (a b c v e : ℕ) → threeOf a b c ≡ seq v e → Three a b c v e
+unfolding threeOf
+three-inv a b c v e h =
+    let i = seq-inv (both (within 0xe0 0xef a) (both (secondFits a b) (tail c))) (a % 16 * 4096 + b % 64 * 64 + c % 64) 2 v e h in
+    let j = both-inv (within 0xe0 0xef a) (both (secondFits a b) (tail c)) (i .0) in
+    let k = both-inv (secondFits a b) (tail c) (j .1) in
+    let l = within-inv 0xe0 0xef a (j .0) in
+    record { low = l .0; high = l .1; fits = k .0; tail-c = k .1; value = i .1; more = i .2 }
+
+pub four-inv : (a b c d v e : ℕ) → fourOf a b c d ≡ seq v e → Four a b c d v e
+unfolding fourOf
+four-inv a b c d v e h =
+    let i = seq-inv (both (within 0xf0 0xf4 a) (both (secondFits a b) (both (tail c) (tail d)))) (a % 8 * 262144 + b % 64 * 4096 + c % 64 * 64 + d % 64) 3 v e h in
+    let j = both-inv (within 0xf0 0xf4 a) (both (secondFits a b) (both (tail c) (tail d))) (i .0) in
+    let k = both-inv (secondFits a b) (both (tail c) (tail d)) (j .1) in
+    let m = both-inv (tail c) (tail d) (k .1) in
+    let l = within-inv 0xf0 0xf4 a (j .0) in
+    record { low = l .0; high = l .1; fits = k .0; tail-c = m .0; tail-d = m .1; value = i .1; more = i .2 }
+
 one-whole : (a b c d v e : ℕ) → a ≤ 0x7f → seq a 0 ≡ seq v e → Whole a b c d v e
 one-whole a b c d v e ha h =
     let ev : a ≡ v = cc in
@@ -105,23 +157,17 @@ one-whole a b c d v e ha h =
       some = λ n. absurd (omega arith);
     }
 
-two-whole : (a b c d v e : ℕ) → twoOf a b ≡ seq v e → Whole a b c d v e
-unfolding twoOf
-two-whole a b c d v e h =
-    let i = seq-inv (both (within 0xc2 0xdf a) (tail b)) (a % 32 * 64 + b % 64) 1 v e h in
-    let j = both-inv (within 0xc2 0xdf a) (tail b) (i .0) in
-    let la = within-inv 0xc2 0xdf a (j .0) in
-    let ev = i .1 in
-    let ee = i .2 in
+two-whole : (a b c d v e : ℕ) → Two a b v e → Whole a b c d v e
+two-whole a b c d v e t =
     let k = width-2 v (omega arith) (omega arith) in
     record {
       wide = omega arith;
       few = omega arith;
       front = within-high 0x80 0xbf a (omega arith);
-      tail-b = λ n. j .1;
+      tail-b = λ n. t .tail-b;
       tail-c = λ n. absurd (omega arith);
       tail-d = λ n. absurd (omega arith);
-      steps = λ n. simp (le-leb a 0xdf (la .1)) (omega arith);
+      steps = λ n. simp (le-leb a 0xdf (t .high)) (omega arith);
       some = λ n. omega arith;
     }
 
@@ -131,53 +177,45 @@ low-e0 a e = simp (eq-eqb _ _ e)
 low-f0 : (a : ℕ) → a ≡ 0xf0 → lowOf a ≡ 0x90
 low-f0 a e = simp (ne-eqb a 0xe0 (omega arith), eq-eqb _ _ e)
 
-three-whole : (a b c d v e : ℕ) → threeOf a b c ≡ seq v e → Whole a b c d v e
-unfolding threeOf
-three-whole a b c d v e h =
-    let i = seq-inv (both (within 0xe0 0xef a) (both (secondFits a b) (tail c))) (a % 16 * 4096 + b % 64 * 64 + c % 64) 2 v e h in
-    let j = both-inv (within 0xe0 0xef a) (both (secondFits a b) (tail c)) (i .0) in
-    let k = both-inv (secondFits a b) (tail c) (j .1) in
-    let la = within-inv 0xe0 0xef a (j .0) in
-    let lb = second-inv a b (k .0) in
-    let tb = tail-inv b (second-tail a b (k .0)) in
-    let ev = i .1 in
-    let ee = i .2 in
-    let big : 0x7ff < v = split-eq a 0xe0 (λ t. omega (arith, low-e0 a t)) (λ t. omega arith) in
-    let w = width-3 v big (omega arith) in
+-- no scalar has a form longer than it needs
+pub three-low : (a b c v e : ℕ) → Three a b c v e → 0x7ff < v
+three-low a b c v e t =
+    let f = second-inv a b (t .fits) in
+    let u = tail-inv b (second-tail a b (t .fits)) in
+    split-eq a 0xe0 (λ q. omega (arith, low-e0 a q)) (λ q. omega arith)
+
+pub four-low : (a b c d v e : ℕ) → Four a b c d v e → 0xffff < v
+four-low a b c d v e t =
+    let f = second-inv a b (t .fits) in
+    let u = tail-inv b (second-tail a b (t .fits)) in
+    split-eq a 0xf0 (λ q. omega (arith, low-f0 a q)) (λ q. omega arith)
+
+three-whole : (a b c d v e : ℕ) → Three a b c v e → Whole a b c d v e
+three-whole a b c d v e t =
+    let w = width-3 v (three-low a b c v e t) (omega arith) in
     record {
       wide = omega arith;
       few = omega arith;
       front = within-high 0x80 0xbf a (omega arith);
-      tail-b = λ n. second-tail a b (k .0);
-      tail-c = λ n. k .1;
+      tail-b = λ n. second-tail a b (t .fits);
+      tail-c = λ n. t .tail-c;
       tail-d = λ n. absurd (omega arith);
-      steps = λ n. simp (lt-leb a 0xdf (omega arith), le-leb a 0xef (la .1)) (omega arith);
-      some = λ n. omega arith;
+      steps = λ n. simp (lt-leb a 0xdf (omega arith), le-leb a 0xef (t .high)) (omega arith);
+      some = λ n. let l = three-low a b c v e t in omega arith;
     }
 
-four-whole : (a b c d v e : ℕ) → fourOf a b c d ≡ seq v e → Whole a b c d v e
-unfolding fourOf
-four-whole a b c d v e h =
-    let i = seq-inv (both (within 0xf0 0xf4 a) (both (secondFits a b) (both (tail c) (tail d)))) (a % 8 * 262144 + b % 64 * 4096 + c % 64 * 64 + d % 64) 3 v e h in
-    let j = both-inv (within 0xf0 0xf4 a) (both (secondFits a b) (both (tail c) (tail d))) (i .0) in
-    let k = both-inv (secondFits a b) (both (tail c) (tail d)) (j .1) in
-    let l = both-inv (tail c) (tail d) (k .1) in
-    let la = within-inv 0xf0 0xf4 a (j .0) in
-    let lb = second-inv a b (k .0) in
-    let tb = tail-inv b (second-tail a b (k .0)) in
-    let ev = i .1 in
-    let ee = i .2 in
-    let big : 0xffff < v = split-eq a 0xf0 (λ t. omega (arith, low-f0 a t)) (λ t. omega arith) in
-    let w = width-4 v big in
+four-whole : (a b c d v e : ℕ) → Four a b c d v e → Whole a b c d v e
+four-whole a b c d v e t =
+    let w = width-4 v (four-low a b c d v e t) in
     record {
       wide = omega arith;
       few = omega arith;
       front = within-high 0x80 0xbf a (omega arith);
-      tail-b = λ n. second-tail a b (k .0);
-      tail-c = λ n. l .0;
-      tail-d = λ n. l .1;
+      tail-b = λ n. second-tail a b (t .fits);
+      tail-c = λ n. t .tail-c;
+      tail-d = λ n. t .tail-d;
       steps = λ n. simp (lt-leb a 0xdf (omega arith), lt-leb a 0xef (omega arith)) (omega arith);
-      some = λ n. omega arith;
+      some = λ n. let l = four-low a b c d v e t in omega arith;
     }
 
 -- cases on which length the first byte gives
@@ -191,8 +229,8 @@ by-lead a b c d f g h i =
 
 pub lead-whole : (a b c d v e : ℕ) → leadOf a b c d ≡ seq v e → Whole a b c d v e
 lead-whole a b c d v e h =
-    by-lead a b c d (λ l q. one-whole a b c d v e l (sym q ∙ h)) (λ l q. two-whole a b c d v e (sym q ∙ h))
-    (λ l q. three-whole a b c d v e (sym q ∙ h)) (λ l q. four-whole a b c d v e (sym q ∙ h))
+    by-lead a b c d (λ l q. one-whole a b c d v e l (sym q ∙ h)) (λ l q. two-whole a b c d v e (two-inv a b v e (sym q ∙ h)))
+    (λ l q. three-whole a b c d v e (three-inv a b c v e (sym q ∙ h))) (λ l q. four-whole a b c d v e (four-inv a b c d v e (sym q ∙ h)))
 
 -- from 0x80 on, the sequence by value
 pub wide-lead : (a b c d : ℕ) → 0x7f < a → wideOf a b c d ≡ valueOf (leadOf a b c d)
@@ -201,12 +239,9 @@ wide-lead a b c d h = sym (simp (lt-leb a 0x7f h))
 
 -- no sequence that starts from 0x80 on has one byte
 pub value-zero : (a b c d v : ℕ) → 0x7f < a → leadOf a b c d ≡ seq v 0 → ⊥
-unfolding twoOf threeOf fourOf
 value-zero a b c d v hi h =
-    by-lead a b c d (λ l q. omega arith)
-    (λ l q. let i = seq-inv (both (within 0xc2 0xdf a) (tail b)) (a % 32 * 64 + b % 64) 1 v 0 (sym q ∙ h) in let z = i .2 in omega arith)
-    (λ l q. let i = seq-inv (both (within 0xe0 0xef a) (both (secondFits a b) (tail c))) (a % 16 * 4096 + b % 64 * 64 + c % 64) 2 v 0 (sym q ∙ h) in let z = i .2 in omega arith)
-    (λ l q. let i = seq-inv (both (within 0xf0 0xf4 a) (both (secondFits a b) (both (tail c) (tail d)))) (a % 8 * 262144 + b % 64 * 4096 + c % 64 * 64 + d % 64) 3 v 0 (sym q ∙ h) in let z = i .2 in omega arith)
+    by-lead a b c d (λ l q. omega arith) (λ l q. omega (arith, two-inv a b v 0 (sym q ∙ h) .more))
+    (λ l q. omega (arith, three-inv a b c v 0 (sym q ∙ h) .more)) (λ l q. omega (arith, four-inv a b c d v 0 (sym q ∙ h) .more))
 
 -- where the first byte sets no bounds of its own, the second is a tail or does not fit
 pub second-plain : (a b : ℕ) → a < 0xe0 → secondFits a b ≡ false → tail b ≡ false
