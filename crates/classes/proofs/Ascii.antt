@@ -1,4 +1,4 @@
--- The classes below 0x80 as the code tests them, a computed test over all numbers there each; and the tables ascend. Assumes nothing.
+-- The tables ascend. Below 0x80 a class is what the code tests: one computed test over all numbers there. What a hex digit stands for. Assumes nothing.
 use Prim.Native.Nat.{ℕ, _+_, _-_, _≤_, _<_}
 use mathlib.Core.Path.{_≡_, refl}
 use mathlib.Core.Bool.{Bool, true, false}

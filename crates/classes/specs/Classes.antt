@@ -24,11 +24,11 @@ whiteSpace =
 abbrev pub isWhiteSpace : ℕ → Bool
 isWhiteSpace v = inRanges whiteSpace v
 
--- a control (the rule of `'`)
+-- a control (the rules of `'` and `b'`)
 abbrev pub isControl : ℕ → Bool
 isControl v = either (within 0x0000 0x001f v) (within 0x007f 0x009f v)
 
--- 0-9
+-- a digit, 0-9
 abbrev pub isDigit : ℕ → Bool
 isDigit v = within 0x30 0x39 v
 
@@ -45,7 +45,9 @@ isHexDigit v = either (isDigit v) (either (isLowHex v) (isHighHex v))
 
 -- what a hex digit stands for; 0 for every other scalar
 unfoldable pub hexValue : ℕ → ℕ
-hexValue v = pick (isDigit v) (v - 0x30) (pick (isLowHex v) (v - 0x61 + 10) (pick (isHighHex v) (v - 0x41 + 10) 0))
+hexValue v =
+    pick (isDigit v) (v - 0x30)
+    (pick (isLowHex v) (v - 0x61 + 10) (pick (isHighHex v) (v - 0x41 + 10) 0))
 
 -- XID_Start up to U+024F; no scalar above is a word letter
 unfoldable pub xidStart : List ℕ
