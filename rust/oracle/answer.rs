@@ -1,0 +1,137 @@
+//! The text of the answers: to standard output as it is, or folded into a hash.
+
+use std::io::{self, Write};
+
+use crate::numbers::Refusal;
+
+const FLUSH_AT: usize = 1 << 20;
+
+pub(crate) struct Answer {
+    text: Vec<u8>,
+    digest: Option<Digest>,
+}
+
+impl Answer {
+    pub(crate) fn new(digest_every: Option<u64>) -> Self {
+        Self {
+            text: Vec::with_capacity(2 * FLUSH_AT),
+            digest: digest_every.map(Digest::new),
+        }
+    }
+
+    pub(crate) fn word(&mut self, word: &str) {
+        self.space();
+        self.text.extend_from_slice(word.as_bytes());
+    }
+
+    pub(crate) fn numbers(&mut self, numbers: &[u32]) {
+        for &number in numbers {
+            self.space();
+            self.decimal(number);
+        }
+    }
+
+    pub(crate) fn hex(&mut self, bytes: &[u8]) {
+        self.space();
+
+        for byte in bytes {
+            for digit in [byte >> 4, byte & 15] {
+                self.text.push(b"0123456789abcdef"[usize::from(digit)]);
+            }
+        }
+    }
+
+    pub(crate) fn end_line(&mut self) {
+        self.text.push(b'\n');
+    }
+
+    pub(crate) fn refusal(&mut self, refusal: &Refusal) {
+        self.word("refused");
+        self.numbers(&[refusal.number, refusal.start, refusal.end]);
+        self.end_line();
+    }
+
+    pub(crate) fn end_frame(&mut self) -> io::Result<()> {
+        self.text.extend_from_slice(b".\n");
+
+        if let Some(digest) = &mut self.digest {
+            digest.frame(&self.text)?;
+            self.text.clear();
+        } else if self.text.len() >= FLUSH_AT {
+            self.write_out()?;
+        }
+
+        Ok(())
+    }
+
+    pub(crate) fn end(&mut self) -> io::Result<()> {
+        match &self.digest {
+            Some(digest) => digest.print(),
+            None => self.write_out(),
+        }
+    }
+
+    fn write_out(&mut self) -> io::Result<()> {
+        io::stdout().write_all(&self.text)?;
+        self.text.clear();
+        Ok(())
+    }
+
+    fn space(&mut self) {
+        if !matches!(self.text.last(), None | Some(b'\n')) {
+            self.text.push(b' ');
+        }
+    }
+
+    fn decimal(&mut self, mut number: u32) {
+        let mut digits = [0; 10];
+        let mut at = digits.len();
+
+        loop {
+            at -= 1;
+            digits[at] = b'0' + (number % 10) as u8;
+            number /= 10;
+
+            if number == 0 {
+                break;
+            }
+        }
+
+        self.text.extend_from_slice(&digits[at..]);
+    }
+}
+
+/// FNV-1a with 64 bits.
+struct Digest {
+    hash: u64,
+    frames: u64,
+    every: u64,
+}
+
+impl Digest {
+    fn new(every: u64) -> Self {
+        Self {
+            hash: 0xcbf2_9ce4_8422_2325,
+            frames: 0,
+            every,
+        }
+    }
+
+    fn frame(&mut self, text: &[u8]) -> io::Result<()> {
+        for &byte in text {
+            self.hash = (self.hash ^ u64::from(byte)).wrapping_mul(0x100_0000_01b3);
+        }
+
+        self.frames += 1;
+
+        if self.frames % self.every == 0 {
+            self.print()?;
+        }
+
+        Ok(())
+    }
+
+    fn print(&self) -> io::Result<()> {
+        writeln!(io::stdout(), "{} {:016x}", self.frames, self.hash)
+    }
+}
