@@ -4,7 +4,7 @@
 usage: tools/prove.py CRATE [FN..] [--raw]        (run at the repository's root)
 
 crates/CRATE/fills/*.py hold the written part of each Proof.antt: answers by need, with @PLACE for the path to a place
-(`@loop .inv`, `@Start .args`). For each FN named (`all`: every one there) the skeleton that the check prints is fetched
+(`@loop .inv`, `@Start .args`). The `use` lines of the crate's own files are written anew. For each FN named (`all`: every one there) the skeleton that the check prints is fetched
 anew and filled; then the crate is checked, and what it says is printed without the prover's long accounts.
 """
 import glob
@@ -15,7 +15,7 @@ import sys
 import time
 
 sys.path.insert(0, os.path.dirname(os.path.abspath(__file__)))
-from uses import use_lines  # noqa: E402
+from uses import rewrite_antt, rewrite_rt, use_lines  # noqa: E402
 
 
 def dev(crate, words=()):
@@ -134,6 +134,11 @@ def show(out):
 def main():
     words = [w for w in sys.argv[1:] if not w.startswith('--')]
     crate, fns, began = words[0], words[1:], time.time()
+    for f in glob.glob(f'crates/{crate}/specs/*.antt') + glob.glob(f'crates/{crate}/proofs/*.antt'):
+        if not f.endswith('/Lib.antt'):
+            rewrite_antt(f)
+    for f in glob.glob(f'crates/{crate}/src/*.rt'):
+        rewrite_rt(f)
     if fns:
         fills = Fills(crate)
         fns = list(fills.known) if fns == ['all'] else fns
