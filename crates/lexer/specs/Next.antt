@@ -1,4 +1,20 @@
 -- A token of a source: the shebang at position 0, the source's end in refusal 12's span, and the tests 1, 2 and 4 before reading.
+use Prim.Native.Nat.{ℕ}
+use mathlib.Core.List.{List, [], _∷_}
+use mathlib.Core.Bool.{Bool, false}
+use lib.Dec.{eqb}
+use lib.ListN.{length}
+use Rattle.laws.specs.Bools.{both, pick}
+use Rattle.lexer.specs.Tokens.{behindOne, nextIs, tokenOf}
+use Rattle.readers.specs.Readers.{lineOf}
+use Rattle.readers.specs.Rules.{Rules, base}
+use Rattle.text.specs.Source.{positionTest}
+use Rattle.text.specs.Utf8.{rest}
+use Rattle.text.specs.declared.source.Tested.the-variants.{IllFormed, Misplaced, Sound, TooLong}
+use Rattle.token.specs.Reads.{refusedOf}
+use Rattle.token.specs.declared.Kind.the-variants.{Shebang}
+use Rattle.token.specs.declared.Read.{Read}
+use Rattle.token.specs.declared.Read.the-variants.{Got, Refused}
 
 -- "`#!` at position 0 of the source: shebang, to before the next LF or the end"
 abbrev pub isShebang : List ℕ → Bool

@@ -1,4 +1,20 @@
 -- Document 01, "How one token is read": which rule reads a token, and the template, whose reader needs the token reader of one depth less.
+use Prim.Native.Nat.{ℕ, zero, suc, _+_, _%_}
+use mathlib.Core.List.{List, [], _∷_}
+use mathlib.Core.Bool.{Bool, true, false}
+use lib.Dec.{ltb, eqb}
+use Rattle.classes.specs.Classes.{isDigit, isWhiteSpace}
+use Rattle.laws.specs.Bools.{both, pick}
+use Rattle.readers.specs.Operators.{operatorOf}
+use Rattle.readers.specs.Readers.{byteOf, charOf, commentOf, lineOf, numberLitOf, startsWord, strOf, whiteOf, wordOf}
+use Rattle.readers.specs.Rules.{Rules}
+use Rattle.readers.specs.declared.operators.Operator.{Operator}
+use Rattle.readers.specs.declared.operators.Operator.the-variants.{Found, Nothing}
+use Rattle.token.specs.Reads.{gotOf, refusedOf}
+use Rattle.token.specs.declared.Kind.{Kind}
+use Rattle.token.specs.declared.Kind.the-variants.{Comment, Eof}
+use Rattle.token.specs.declared.Read.{Read}
+use Rattle.token.specs.declared.Read.the-variants.{Got, Refused}
 
 abbrev pub nextIs : ℕ → List ℕ → Bool
 nextIs c [] = false

@@ -1,4 +1,11 @@
 -- The four turns of every loop over the scanner, at a place of a source. Assumes nothing.
+use Prim.Native.Nat.{ℕ}
+use mathlib.Core.Path.{_≡_, refl, sym, ap, _∙_}
+use mathlib.Core.List.{List, [], _∷_}
+use Rattle.readers.specs.Rules.{Rules, base}
+use Rattle.readers.specs.Scan.{Act, How, Stop, before, behind, ended, full, on, scan, short, stopAt}
+use Rattle.text.proofs.Decode.{Step}
+use Rattle.text.specs.Utf8.{rest}
 
 module _ {S : Type 0} where
   pub by-act {ℓ} : {X : Type ℓ} (a : Act S) → ((s : S) → a ≡ on s → X) → ((s : S) → a ≡ before s → X) → ((s : S) → a ≡ behind s → X) → X
@@ -46,3 +53,10 @@ module _ {S : Type 0} (step : S → ℕ → List ℕ → Act S) (st : S) (s : Li
     -- the end behind a scalar that the step went on over: the last scalar read stands at p
     pub goes-cut : (st′ : S) → step st v (rest s n) ≡ on st′ → rest s n ≡ [] → stopAt st′ p n ended ≡ o
     goes-cut st′ e z = scan-end step st′ p s n z ∙ scan-on step st (g .0) s p v n t st′ e ∙ g .1
+
+-- the last place is of no account to where and why a scan stops
+module _ {S : Type 0} {A : Type 0} (step : S → ℕ → List ℕ → Act S) (R : Rules) (f : S → ℕ → How → A) where
+  pub scan-last : (st : S) (l l′ : ℕ) (cs : List ℕ) (p : ℕ) → let o = scan step R st l cs p in let o′ = scan step R st l′ cs p in f (o .state) (o .place) (o .how) ≡ f (o′ .state) (o′ .place) (o′ .how)
+  unfolding scan
+  scan-last st l l′ [] p = refl
+  scan-last st l l′ (v ∷ cs) p = by-act (step st v cs) (λ s e. rw (e, scan) refl) (λ s e. rw (e, scan) refl) (λ s e. rw (e, scan) refl)

@@ -1,4 +1,23 @@
 -- What the code's tests say of each reader's step, in the order of the readers. Assumes nothing.
+use Prim.Native.Nat.{ℕ, suc}
+use mathlib.Core.Path.{_≡_, refl, sym, ap, _∙_, subst}
+use mathlib.Core.List.{List, []}
+use mathlib.Core.Bool.{Bool, true, false}
+use native.Mathlib.Omega.{arith}
+use lib.Dec.{eqb}
+use borrow.Author.Tests.{eq-eqb, ne-eqb}
+use Rattle.classes.specs.Classes.{isControl}
+use Rattle.laws.proofs.Cases.{split}
+use Rattle.laws.specs.Bools.{both}
+use Rattle.readers.proofs.Scans.{scan-end, scan-last, scan-on}
+use Rattle.readers.specs.Readers.{Comments, Digits, beginsDigit, body, broken, byteStep, charAnswer, charStep, closedBy, commentStep, control, escape, fractional, inLabel, inNumber, integral, letters, numberStep, passOne, runStep, shut, skips, slash, slashed, starred, strStep, text}
+use Rattle.readers.specs.Rules.{base}
+use Rattle.readers.specs.Scan.{How, Stop, before, behind, on, scan}
+use Rattle.text.proofs.Decode.{Step, by-step}
+use Rattle.text.specs.Utf8.{rest}
+use Rattle.token.specs.Reads.{gotOf}
+use Rattle.token.specs.declared.kind.Kind.the-variants.{MultilineComment}
+use Rattle.token.specs.declared.read.Read.{Read}
 
 pub run-yes : (f : ℕ → Bool) (v : ℕ) (cs : List ℕ) → f v ≡ true → runStep f tt v cs ≡ on tt
 run-yes f v cs h = rw h
@@ -8,10 +27,10 @@ run-no f v cs h = rw h
 
 -- the code's flag: the last scalar was a star
 abbrev pub commentAt : Bool → Comments
-commentAt true = star
+commentAt true = starred
 commentAt false = skips 0
 
-pub comment-close : (v : ℕ) (cs : List ℕ) → v ≡ 47 → commentStep star v cs ≡ behind star
+pub comment-close : (v : ℕ) (cs : List ℕ) → v ≡ 47 → commentStep starred v cs ≡ behind starred
 unfolding commentStep
 comment-close v cs h = rw (eq-eqb v 47 h, commentStep)
 
@@ -55,8 +74,8 @@ module _ (e : Bool) (v : ℕ) (cs : List ℕ) where
 
 -- the code's flag: no `.` was taken yet
 abbrev pub digitsAt : Bool → Digits
-digitsAt true = whole
-digitsAt false = part
+digitsAt true = integral
+digitsAt false = fractional
 
 module _ (v : ℕ) (cs : List ℕ) where
   pub number-more : (b : Bool) → inNumber v ≡ true → numberStep (digitsAt b) v cs ≡ on (digitsAt b)
@@ -65,19 +84,19 @@ module _ (v : ℕ) (cs : List ℕ) where
   number-more false h = rw (h, numberStep)
 
   module _ (n : inNumber v ≡ false) where
-    pub number-part : numberStep part v cs ≡ before part
+    pub number-part : numberStep fractional v cs ≡ before fractional
     unfolding numberStep
     number-part = rw (n, numberStep)
 
-    pub number-other : (v ≡ 46 → ⊥) → numberStep whole v cs ≡ before whole
+    pub number-other : (v ≡ 46 → ⊥) → numberStep integral v cs ≡ before integral
     unfolding numberStep
     number-other h = rw (n, ne-eqb v 46 h, numberStep)
 
-    pub number-bare : v ≡ 46 → beginsDigit cs ≡ false → numberStep whole v cs ≡ before whole
+    pub number-bare : v ≡ 46 → beginsDigit cs ≡ false → numberStep integral v cs ≡ before integral
     unfolding numberStep
     number-bare h k = rw (n, eq-eqb v 46 h, k, numberStep)
 
-    pub number-dot : v ≡ 46 → beginsDigit cs ≡ true → numberStep whole v cs ≡ on part
+    pub number-dot : v ≡ 46 → beginsDigit cs ≡ true → numberStep integral v cs ≡ on fractional
     unfolding numberStep
     number-dot h k = rw (n, eq-eqb v 46 h, k, numberStep)
 
@@ -109,3 +128,39 @@ module _ (l m : Bool) (v : ℕ) (cs : List ℕ) where
           pub char-other : both l m ≡ false → charStep (letters l m) v cs ≡ on (letters false true)
           unfolding charStep
           char-other h = rw (ne-eqb v 92 n, ne-eqb v 39 q, k, i, h, charStep)
+
+-- a comment's answer, and the scalars passed over before its close is looked for
+abbrev pub commentRead : ℕ → Stop Comments → Read
+commentRead a o = gotOf (MultilineComment (closedBy (o .how))) a (o .place)
+
+pub pass-none : (s : List ℕ) (at : ℕ) → rest s at ≡ [] → at ≡ passOne base (rest s at) at
+pass-none s at e = rw e
+
+pub pass-step : (s : List ℕ) (at v n : ℕ) → Step s at v n → n ≡ passOne base (rest s at) at
+pass-step s at v n t = rw (t .here) (t .next)
+
+pub comment-skip : (a k l l′ : ℕ) (s : List ℕ) (at q : ℕ) → q ≡ passOne base (rest s at) at
+    → commentRead a (scan commentStep base (skips k) l′ (rest s q) q) ≡ commentRead a (scan commentStep base (skips (suc k)) l (rest s at) at)
+unfolding commentStep
+comment-skip a k l l′ s at q h =
+    by-step s at
+    (λ e.
+    let z : q ≡ at = h ∙ sym (pass-none s at e) in
+    subst (λ (x : ℕ). commentRead a (scan commentStep base (skips k) l′ (rest s x) x) ≡ commentRead a (scan commentStep base (skips (suc k)) l (rest s at) at)) (sym z)
+    (sym (ap (commentRead a) (scan-end commentStep (skips k) l′ s at e)) ∙ ap (commentRead a) (scan-end commentStep (skips (suc k)) l s at e)))
+    (λ v n t.
+    let z : q ≡ n = h ∙ sym (pass-step s at v n t) in
+    subst (λ (x : ℕ). commentRead a (scan commentStep base (skips k) l′ (rest s x) x) ≡ commentRead a (scan commentStep base (skips (suc k)) l (rest s at) at)) (sym z)
+    (scan-last commentStep base (λ (st : Comments) (p : ℕ) (w : How). gotOf (MultilineComment (closedBy w)) a p) (skips k) l′ at (rest s n) n
+    ∙ ap (commentRead a) (scan-on commentStep (skips (suc k)) l s at v n t (skips k) refl)))
+
+-- the last place counts only behind a backslash, and a closed char answers as one that ended with its label lost
+pub answer-last : (a : ℕ) (l m : Bool) (p q e : ℕ) → charAnswer a (letters l m) p e ≡ charAnswer a (letters l m) q e
+answer-last a true true p q e = refl
+answer-last a true false p q e = refl
+answer-last a false true p q e = refl
+answer-last a false false p q e = refl
+
+pub answer-shut : (a : ℕ) (m : Bool) (p q e : ℕ) → charAnswer a (letters false m) p e ≡ charAnswer a (shut m) q e
+answer-shut a true p q e = refl
+answer-shut a false p q e = refl

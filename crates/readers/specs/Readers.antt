@@ -1,5 +1,17 @@
 -- Document 01, "How one token is read", rule by rule in its order. Each reader takes the scalars behind a token's opening, their place,
 -- and the place a where the token started; a refusal's numbers and places are those of "Refusal numbers and places".
+use Prim.Native.Nat.{ℕ, zero, suc, _+_}
+use mathlib.Core.List.{List, [], _∷_}
+use mathlib.Core.Bool.{Bool, true, false, not}
+use lib.Dec.{eqb}
+use Rattle.classes.specs.Classes.{isControl, isDigit, isWhiteSpace}
+use Rattle.laws.specs.Bools.{both, either, pick, within}
+use Rattle.readers.specs.Rules.{Rules}
+use Rattle.readers.specs.Scan.{Act, How, before, behind, ended, full, on, scan, short}
+use Rattle.token.specs.Reads.{gotOf, refusedOf}
+use Rattle.token.specs.declared.kind.Kind.{Kind}
+use Rattle.token.specs.declared.kind.Kind.the-variants.{Byte, ByteStr, Char, Ident, Label, MultilineComment, Number, Str, Underscore, Whitespace}
+use Rattle.token.specs.declared.read.Read.{Read}
 
 -- the place where the longest run of scalars that pass a test ends
 abbrev pub runStep : (ℕ → Bool) → Unit {0} → ℕ → List ℕ → Act (Unit {0})
@@ -27,12 +39,12 @@ passOne R (v ∷ cs) p = p + R .wide v
 -- "`/*`: the next two scalars are skipped; then the first `*/` closes. With none, kind 4 to the end."
 pub data Comments : Type 0 where
   skips : ℕ → Comments
-  star : Comments
+  starred : Comments
 
 unfoldable pub commentStep : Comments → ℕ → List ℕ → Act Comments
 commentStep (skips (suc k)) v cs = on (skips k)
-commentStep (skips zero) v cs = pick (eqb v 42) (on star) (on (skips 0))
-commentStep star v cs = pick (eqb v 47) (behind star) (pick (eqb v 42) (on star) (on (skips 0)))
+commentStep (skips zero) v cs = pick (eqb v 42) (on starred) (on (skips 0))
+commentStep starred v cs = pick (eqb v 47) (behind starred) (pick (eqb v 42) (on starred) (on (skips 0)))
 
 abbrev pub closedBy : How → Bool
 closedBy ended = false
@@ -112,15 +124,15 @@ beginsDigit [] = false
 beginsDigit (v ∷ cs) = isDigit v
 
 pub data Digits : Type 0 where
-  whole : Digits
-  part : Digits
+  integral : Digits
+  fractional : Digits
 
 unfoldable pub numberStep : Digits → ℕ → List ℕ → Act Digits
-numberStep whole v cs = pick (inNumber v) (on whole) (pick (both (eqb v 46) (beginsDigit cs)) (on part) (before whole))
-numberStep part v cs = pick (inNumber v) (on part) (before part)
+numberStep integral v cs = pick (inNumber v) (on integral) (pick (both (eqb v 46) (beginsDigit cs)) (on fractional) (before integral))
+numberStep fractional v cs = pick (inNumber v) (on fractional) (before fractional)
 
 unfoldable pub numberLitOf : Rules → ℕ → List ℕ → ℕ → Read
-numberLitOf R a cs p = gotOf Number a (scan numberStep R whole p cs p .place)
+numberLitOf R a cs p = gotOf Number a (scan numberStep R integral p cs p .place)
 
 -- "`'`: a count at 0, "label" true ..": the first flag is "label", the second says that the count is above 0
 pub data Chars : Type 0 where

@@ -1,4 +1,8 @@
 -- What may vary in how text is read. All reading is defined, and all that holds for every reading proved, over one such record.
+use Prim.Native.Nat.{ℕ}
+use mathlib.Core.Bool.{Bool}
+use Rattle.classes.specs.Classes.{isXidContinue, isXidStart}
+use Rattle.text.specs.Utf8.{width}
 
 pub record Rules : Type 0 where
   -- how far a scalar moves the place

@@ -1,4 +1,7 @@
 -- One scanner for every reader that takes a scalar at a time: a reader is a step on a small state, and an answer made of where and why it stopped.
+use Prim.Native.Nat.{ℕ, _+_}
+use mathlib.Core.List.{List, [], _∷_}
+use Rattle.readers.specs.Rules.{Rules}
 
 -- what a scalar does: the scan goes on, stops before it, or stops behind it; each with the state then
 pub data Act (S : Type 0) : Type 0 where

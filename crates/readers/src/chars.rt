@@ -2,6 +2,10 @@
 use text::Scalar;
 use token::Kind;
 use token::Read;
+ghost use mathlib.Core.Path.{_≡_};
+ghost use Rattle.readers.specs.Readers.{charAnswer, charOf, inLabel, letters};
+ghost use Rattle.readers.specs.Rules.{base};
+ghost use Rattle.text.specs.Utf8.{rest};
 
 fn in_label(v: u32) -> bool
     ensures { λ r. ⌜ r ≡ inLabel v ⌝ }
@@ -56,7 +60,7 @@ pub fn next_char_or_label(s: &[u8], start: usize, at: usize) -> Read
             some = true;
             p = next;
         } else {
-            if text::is_control(value) {
+            if classes::is_control(value) {
                 return token::refused(11, start, p, p);
             }
             if label {

@@ -2,6 +2,11 @@
 use text::Scalar;
 use token::Kind;
 use token::Read;
+ghost use mathlib.Core.Path.{_≡_};
+ghost use Rattle.classes.specs.Classes.{isWhiteSpace};
+ghost use Rattle.readers.specs.Readers.{commentOf, inLine, passOne, run};
+ghost use Rattle.readers.specs.Rules.{base};
+ghost use Rattle.text.specs.Utf8.{rest};
 
 // The place where the white space at a place ends.
 pub fn consume_whitespace(s: &[u8], at: usize) -> usize
@@ -12,7 +17,7 @@ pub fn consume_whitespace(s: &[u8], at: usize) -> usize
         let Scalar::One { value, next } = text::scalar_at(s, p) else {
             return p;
         };
-        if !text::is_whitespace(value) {
+        if !classes::is_whitespace(value) {
             return p;
         }
         p = next;

@@ -2,6 +2,10 @@
 use text::Scalar;
 use token::Kind;
 use token::Read;
+ghost use mathlib.Core.Path.{_≡_};
+ghost use Rattle.readers.specs.Readers.{byteOf, strKind, strNumber, strOf};
+ghost use Rattle.readers.specs.Rules.{base};
+ghost use Rattle.text.specs.Utf8.{rest};
 
 pub fn next_lit_byte(s: &[u8], start: usize, at: usize) -> Read
     ensures { λ r. ⌜ r ≡ byteOf base start (rest (now (s .entry)) at) at ⌝ }
@@ -31,7 +35,7 @@ pub fn next_lit_byte(s: &[u8], start: usize, at: usize) -> Read
             if value == 39 {
                 return token::got(Kind::Byte, start, next);
             }
-            if text::is_control(value) {
+            if classes::is_control(value) {
                 return token::refused(15, start, next, next);
             }
             p = next;

@@ -2,6 +2,11 @@
 use text::Scalar;
 use token::Kind;
 use token::Read;
+ghost use mathlib.Core.Path.{_≡_};
+ghost use Rattle.classes.specs.Classes.{isXidContinue};
+ghost use Rattle.readers.specs.Readers.{beginsDigit, inNumber, numberLitOf, run, wordOf};
+ghost use Rattle.readers.specs.Rules.{base};
+ghost use Rattle.text.specs.Utf8.{first, rest};
 
 fn word_end(s: &[u8], at: usize) -> usize
     ensures { λ r. ⌜ r ≡ run base isXidContinue (rest (now (s .entry)) at) at ⌝ }
@@ -11,7 +16,7 @@ fn word_end(s: &[u8], at: usize) -> usize
         let Scalar::One { value, next } = text::scalar_at(s, p) else {
             return p;
         };
-        if !text::is_xid_continue(value) {
+        if !classes::is_xid_continue(value) {
             return p;
         }
         p = next;
@@ -47,7 +52,7 @@ fn digit_at(s: &[u8], at: usize) -> bool
     let Scalar::One { value, next: _ } = text::scalar_at(s, at) else {
         return false;
     };
-    text::is_ascii_digit(value)
+    classes::is_ascii_digit(value)
 }
 
 pub fn next_number_literal(s: &[u8], start: usize, at: usize) -> Read

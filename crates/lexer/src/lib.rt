@@ -1,0 +1,1 @@
+// Which rule reads a token, and the template.

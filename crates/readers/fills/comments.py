@@ -1,0 +1,33 @@
+M = {'s': '(@Start .args .s .now)', 'at': '(@Start .args .at)', 'p': '(@loop .p)', 'g': '(@loop .inv)',
+     'v': '(@value .given .0 .0)', 'n': '(@value .given .0 .1 .0)',
+     'step': '(step-one $s$ $p$ $v$ $n$ (sym (@scalar-at .ensures) ∙ @value .given .1))',
+     'end': '(step-none $s$ $p$ (sym (@scalar-at .ensures) ∙ @enum-told .given .1))',
+     'place': '(λ (o : Stop (Unit {0})). o .place)'}
+
+
+def runs(fn, test, stays, stops):
+    fill(fn, {
+        'Inv-loop': f'Goes (runStep {test}) tt s p (scan (runStep {test}) base tt at (rest s at) at)', 'μ-loop': 'length s - p',
+        'loop-holds': '($at$, refl)',
+        'returns': ('run', f'ap $place$ (goes-end (runStep {test}) _ _ _ _ $g$ $end$)'),
+        'returns-2': ('run', f'ap $place$ (goes-before (runStep {test}) _ _ _ _ $g$ _ _ $step$ tt (run-no {test} $v$ (rest $s$ $n$) ({stops})))'),
+        'loop-less': 'let t = $step$ in omega arith',
+        'loop-again': f'goes-on (runStep {test}) _ _ _ _ $g$ _ _ $step$ tt (run-yes {test} $v$ (rest $s$ $n$) ({stays}))'}, macros=M)
+
+
+runs('comments/consume_whitespace', 'isWhiteSpace', 'sym (@is-whitespace .ensures) ∙ not-false _ (@if1 .left)', 'sym (@is-whitespace .ensures) ∙ not-true _ (@if1 .taken)')
+runs('comments/consume_line', 'inLine', 'ap not (ne-eqb _ _ (@if1 .left))', 'ap not (eq-eqb _ _ (@if1 .taken))')
+runs('words/word_end', 'isXidContinue', 'sym (@is-xid-continue .ensures) ∙ not-false _ (@if1 .left)', 'sym (@is-xid-continue .ensures) ∙ not-true _ (@if1 .taken)')
+fill('comments/pass_one', {
+    'returns': 'pass-none _ _ (step-none $s$ $at$ (sym (@scalar-at .ensures) ∙ @enum-told .given .1))',
+    'returns-2': 'pass-step _ _ _ _ (step-one $s$ $at$ _ _ (sym (@scalar-at .ensures) ∙ @next .given .1))'}, macros=M)
+fill('comments/next_multiline_comment', {
+    'Inv-loop': '(l : ℕ) × (commentRead start (scan commentStep base (commentAt star) l (rest s p) p) ≡ commentOf base start (rest s at) at)',
+    'μ-loop': 'length s - p',
+    'loop-holds': ('commentOf', '($at$, comment-skip $a$ 0 $at$ $at$ $s$ (@pass-one .result) (@pass-one2 .result) (@pass-one2 .ensures) ∙ comment-skip $a$ 1 $at$ $at$ $s$ $at$ (@pass-one .result) (@pass-one .ensures))'),
+    'returns': '@got .ensures ∙ ap (commentRead $a$) (scan-end commentStep (commentAt (@loop .star)) ($g$ .0) $s$ $p$ $end$) ∙ $g$ .1',
+    'returns-2': '@got2 .ensures ∙ ap (commentRead $a$) (scan-behind commentStep starred ($g$ .0) $s$ $p$ $v$ $n$ $step$ starred (comment-close $v$ (rest $s$ $n$) (@if2 .taken))) ∙ $starred$',
+    'loop-less': 'let t = $step$ in omega arith',
+    'loop-again': '($p$, ap (commentRead $a$) (scan-on commentStep (commentAt (@loop .star)) ($g$ .0) $s$ $p$ $v$ $n$ $step$ (commentAt (eqb $v$ 42)) (comment-more (@loop .star) $v$ (rest $s$ $n$) (⊎-elim (λ w e. w .1 .left) (λ w e. never (let z = w .left in cc)) (@if1 .came)))) ∙ $g$ .1)'},
+    macros=dict(M, a='(@Start .args .start)',
+                starred='ap (λ (b : Bool). commentRead $a$ (scan commentStep base (commentAt b) ($g$ .0) (rest $s$ $p$) $p$)) (sym (@if1 .taken)) ∙ $g$ .1'))
