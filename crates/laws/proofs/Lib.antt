@@ -1,3 +1,4 @@
 pub mod Cases
+pub mod Determined
 pub mod Ranges
 pub mod Tables
