@@ -25,3 +25,8 @@ eofOf p = Got (record { kind = Eof; span = pointOf p })
 -- a refusal has a number, a span and the place reached
 abbrev pub refusedOf : ℕ → ℕ → ℕ → ℕ → Read
 refusedOf number start end reached = Refused (record { number = number; span = spanOf start end; reached = reached })
+
+-- the place that reading reached: a token's end, or a refusal's own
+abbrev pub reachedOf : Read → ℕ
+reachedOf (Got k) = k .span .end
+reachedOf (Refused r) = r .reached

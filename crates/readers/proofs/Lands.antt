@@ -1,0 +1,144 @@
+-- Every reader stops at the place of one of the scalars that it was given, or after the last. Assumes nothing.
+use Prim.Native.Nat.{ℕ, _+_, _≤_}
+use mathlib.Core.Path.{_≡_, refl, subst}
+use mathlib.Core.List.{List, [], _∷_}
+use mathlib.Core.Bool.{Bool, true, false}
+use mathlib.Core.Logic.{inl, inr, _⊎_}
+use native.Mathlib.Omega.{arith}
+use lib.ListN.{length}
+use Rattle.classes.specs.Classes.{isWhiteSpace}
+use Rattle.laws.proofs.Cases.{never}
+use Rattle.readers.proofs.Scans.{by-act}
+use Rattle.readers.specs.Operators.{findOne, findThree, findTwo, foundAt, lookOne, lookThree, lookTwo, ones, operatorOf, orElse, threes, twos}
+use Rattle.readers.specs.Readers.{Bytes, Chars, Quoted, body, broken, byteAnswer, byteOf, byteStep, charAnswer, charOf, charStep, commentOf, commentStep, control, escape, fresh, inLine, integral, letters, lineOf, numberLitOf, numberStep, run, runStep, shut, skips, slash, slashed, strAnswer, strOf, strStep, text, whiteOf, wordOf}
+use Rattle.readers.specs.Rules.{Rules, base}
+use Rattle.readers.specs.Scan.{Act, How, ended, full, scan, short}
+use Rattle.readers.specs.declared.operators.Operator.{Operator}
+use Rattle.readers.specs.declared.operators.Operator.the-variants.{Found, Nothing}
+use Rattle.text.proofs.Decode.{rest-room, rest-tail}
+use Rattle.text.specs.Utf8.{rest, width}
+use Rattle.token.specs.Reads.{reachedOf}
+use Rattle.token.specs.declared.kind.Kind.{Kind}
+use Rattle.token.specs.declared.kind.Known.{Known}
+use Rattle.token.specs.declared.kind.Known.the-variants.{Is, Unknown}
+
+-- r is the place of one of the scalars cs, the first of which stands at p, or the place after the last
+abbrev pub Lands : Rules → List ℕ → ℕ → ℕ → Type 0
+Lands R [] p r = p ≡ r
+Lands R (v ∷ cs) p r = (p ≡ r) ⊎ Lands R cs (p + R .wide v) r
+
+module _ (R : Rules) where
+  pub lands-here : (cs : List ℕ) (p : ℕ) → Lands R cs p p
+  lands-here [] p = refl
+  lands-here (v ∷ cs) p = inl refl
+
+  pub lands-le : (cs : List ℕ) (p r : ℕ) → Lands R cs p r → p ≤ r
+  lands-le [] p r e = omega arith
+  lands-le (v ∷ cs) p r (inl e) = omega arith
+  lands-le (v ∷ cs) p r (inr h) = let k = lands-le cs (p + R .wide v) r h in omega arith
+
+  pub scan-lands : {S : Type 0} (step : S → ℕ → List ℕ → Act S) (s : S) (l : ℕ) (cs : List ℕ) (p : ℕ) → Lands R cs p (scan step R s l cs p .place)
+  unfolding scan
+  scan-lands step s l [] p = refl
+  scan-lands step s l (v ∷ cs) p =
+      by-act (step s v cs) (λ s′ e. rw (e, scan) (inr (scan-lands step s′ p cs (p + R .wide v)))) (λ s′ e. rw (e, scan) (inl refl))
+      (λ s′ e. rw (e, scan) (inr (lands-here cs (p + R .wide v))))
+
+  pub run-lands : (f : ℕ → Bool) (cs : List ℕ) (p : ℕ) → Lands R cs p (run R f cs p)
+  unfolding run
+  run-lands f cs p = scan-lands (runStep f) tt p cs p
+
+  module _ (a : ℕ) (cs : List ℕ) (p : ℕ) where
+    pub white-lands : Lands R cs p (reachedOf (whiteOf R a cs p))
+    unfolding whiteOf
+    white-lands = run-lands isWhiteSpace cs p
+
+    pub line-lands : (k : Kind) → Lands R cs p (reachedOf (lineOf R k a cs p))
+    unfolding lineOf
+    line-lands k = run-lands inLine cs p
+
+    pub comment-lands : Lands R cs p (reachedOf (commentOf R a cs p))
+    unfolding commentOf
+    comment-lands = scan-lands commentStep (skips (R .skip)) p cs p
+
+    pub word-lands : (v : ℕ) → Lands R cs p (reachedOf (wordOf R v a cs p))
+    unfolding wordOf
+    word-lands v = run-lands (R .continue) cs p
+
+    pub number-lands : Lands R cs p (reachedOf (numberLitOf R a cs p))
+    unfolding numberLitOf
+    number-lands = scan-lands numberStep integral p cs p
+
+    -- what these three answer reaches the place of the stop, whatever the answer is
+    pub byte-reached : (st : Bytes) (l q : ℕ) (h : How) → reachedOf (byteAnswer a st l q h) ≡ q
+    byte-reached fresh l q h = refl
+    byte-reached slash l q h = refl
+    byte-reached control l q h = refl
+    byte-reached body l q full = refl
+    byte-reached body l q ended = refl
+    byte-reached body l q short = refl
+
+    pub byte-lands : Lands R cs p (reachedOf (byteOf R a cs p))
+    unfolding byteOf
+    byte-lands = let o = scan byteStep R fresh p cs p in rw (byte-reached (o .state) (o .last) (o .place) (o .how)) (scan-lands byteStep fresh p cs p)
+
+    pub str-reached : (b : Bool) (st : Quoted) (l q : ℕ) (h : How) → reachedOf (strAnswer b a st l q h) ≡ q
+    str-reached b (slashed e) l q h = refl
+    str-reached b (text e) l q full = refl
+    str-reached b (text e) l q ended = refl
+    str-reached b (text e) l q short = refl
+
+    pub str-lands : (b : Bool) → Lands R cs p (reachedOf (strOf R b a cs p))
+    unfolding strOf
+    str-lands b = let o = scan strStep R (text false) p cs p in rw (str-reached b (o .state) (o .last) (o .place) (o .how)) (scan-lands strStep (text false) p cs p)
+
+    pub char-reached : (st : Chars) (l q : ℕ) → reachedOf (charAnswer a st l q) ≡ q
+    char-reached escape l q = refl
+    char-reached broken l q = refl
+    char-reached (shut true) l q = refl
+    char-reached (shut false) l q = refl
+    char-reached (letters true true) l q = refl
+    char-reached (letters true false) l q = refl
+    char-reached (letters false true) l q = refl
+    char-reached (letters false false) l q = refl
+
+    pub char-lands : Lands R cs p (reachedOf (charOf R a cs p))
+    unfolding charOf
+    char-lands = let o = scan charStep R (letters true false) p cs p in rw (char-reached (o .state) (o .last) (o .place)) (scan-lands charStep (letters true false) p cs p)
+
+  found-lands : (m : Known) (q : ℕ) (k : Kind) (e : ℕ) → foundAt m q ≡ Found k e → q ≡ e
+  found-lands (Is j) q k e h = cc
+  found-lands Unknown q k e h = never (cc)
+
+  -- which of the three lengths an operator has
+  pub by-length : {X : Type 0} (f g h : Operator) (k : Kind) (e : ℕ) → orElse f (orElse g h) ≡ Found k e → (f ≡ Found k e → X) → (g ≡ Found k e → X) → (h ≡ Found k e → X) → X
+  by-length (Found j p) g h k e q x y z = x q
+  by-length Nothing (Found j p) h k e q x y z = y q
+  by-length Nothing Nothing h k e q x y z = z q
+
+  three-lands : (v : ℕ) (cs : List ℕ) (p : ℕ) (k : Kind) (e : ℕ) → findThree R v cs p ≡ Found k e → Lands R cs p e
+  unfolding findThree
+  three-lands v [] p k e h = never (cc)
+  three-lands v (w ∷ []) p k e h = never (cc)
+  three-lands v (w ∷ (x ∷ cs)) p k e h =
+      let q = found-lands (lookThree threes v w x) (p + R .wide w + R .wide x) k e h in
+      inr (inr (subst (λ (z : ℕ). Lands R cs (p + R .wide w + R .wide x) z) q (lands-here cs (p + R .wide w + R .wide x))))
+
+  two-lands : (v : ℕ) (cs : List ℕ) (p : ℕ) (k : Kind) (e : ℕ) → findTwo R v cs p ≡ Found k e → Lands R cs p e
+  unfolding findTwo
+  two-lands v [] p k e h = never (cc)
+  two-lands v (w ∷ cs) p k e h =
+      let q = found-lands (lookTwo twos v w) (p + R .wide w) k e h in
+      inr (subst (λ (z : ℕ). Lands R cs (p + R .wide w) z) q (lands-here cs (p + R .wide w)))
+
+  pub operator-lands : (v : ℕ) (cs : List ℕ) (p : ℕ) (k : Kind) (e : ℕ) → operatorOf R v cs p ≡ Found k e → Lands R cs p e
+  unfolding operatorOf findOne
+  operator-lands v cs p k e h =
+      by-length (findThree R v cs p) (findTwo R v cs p) (findOne v p) k e h (λ q. three-lands v cs p k e q) (λ q. two-lands v cs p k e q)
+      (λ q. subst (λ (z : ℕ). Lands R cs p z) (found-lands (lookOne ones v) p k e q) (lands-here cs p))
+
+-- at a place of a source
+pub lands-room : (s cs : List ℕ) (p r : ℕ) → cs ≡ rest s p → p ≤ length s → Lands base cs p r → r ≤ length s
+lands-room s [] p r e h k = omega arith
+lands-room s (v ∷ cs) p r e h (inl k) = omega arith
+lands-room s (v ∷ cs) p r e h (inr k) = lands-room s cs (p + width v) r (rest-tail s p v cs e) (rest-room s p v cs e) k
