@@ -80,15 +80,16 @@ class Fills:
     def __init__(self, crate):
         self.crate, self.known = crate, {}
         for f in sorted(glob.glob(f'crates/{crate}/fills/*.py')):
-            exec(compile(open(f).read(), f, 'exec'), {'fill': self.fill})
+            exec(compile(open(f).read(), f, 'exec'), {'fill': self.fill, 'cycle': self.cycle})
 
     def fill(self, fn, answers, head='', macros=(), pre='', lts='Lts', uses=''):
         self.known[fn] = (answers, head, dict(macros), pre, lts, uses)
 
-    def write(self, fn, skeleton):
-        answers, head, macros, pre, lts, uses = self.known[fn]
-        text = re.sub(r'^-- src.*\n', '', skeleton, flags=re.M)
-        text = '\n'.join(l for l in text.split('\n') if not re.match(r'use .* as (reads|lts|\S+-reads)$', l))
+    def cycle(self, fn, parts, measures, head=''):
+        """A cycle of calls: parts are (prefix of the needs, answers, macros) by function; measures are lines by name."""
+        self.known[fn] = (parts, head, measures)
+
+    def answer(self, text, fn, lts, answers, macros, prefix=''):
         steps = places(self.crate, fn, lts)
         for need, answer in answers.items():
             opened = ''
@@ -96,17 +97,39 @@ class Fills:
                 opened, answer = f'unfolding {answer[0]}\n', answer[1]
             if need in steps:
                 answer = expand(answer, steps[need], macros)
-            pat = re.compile(r'^(' + re.escape(need) + r'(?: [^=\n:]*)?) = (?:[^\n]*\n(?:    [^\n]*\n)*)', re.M)
+            pat = re.compile(r'^(' + re.escape(prefix + need) + r'(?: [^=\n:]*)?) = (?:[^\n]*\n(?:    [^\n]*\n)*)', re.M)
             if not pat.search(text):
-                raise SystemExit(f'{fn}: no need {need}; there are: {sorted(steps)}')
+                raise SystemExit(f'{fn}: no need {prefix + need}; there are: {sorted(steps)}')
             text = pat.sub(lambda m: opened + m.group(1) + ' = ' + answer + '\n', text, count=1)
+        return text
+
+    def write(self, fn, skeleton):
+        text = re.sub(r'^-- src.*\n', '', skeleton, flags=re.M)
+        if fn.split('/')[-1].startswith('+'):
+            return self.write_cycle(fn, text)
+        answers, head, macros, pre, lts, uses = self.known[fn]
+        text = self.answer(text, fn, lts, answers, macros)
         text = re.sub(r'^((?!Inv|μ)[^\n=]*) = \?$', r'\1 = search needs', text, flags=re.M)
         keep = '\n'.join(l for l in text.split('\n') if re.match(r'use \S+\.(Statement\.|Tie as)', l))
         body = '\n'.join(l for l in text.split('\n') if not l.startswith('use ')).lstrip('\n')
         keep = (uses.strip() + '\n' + keep).strip()
         if pre:
             body = pre.strip('\n') + '\n\n' + body
-        made = use_lines(keep + '\n' + body, self.crate, 'proofs', '')
+        self.save(fn, head, keep, body)
+
+    def write_cycle(self, fn, text):
+        parts, head, measures = self.known[fn]
+        for function, (prefix, answers, macros) in parts.items():
+            text = self.answer(text, fn, 'Lts-' + function, answers, dict(macros), prefix)
+        for name, measure in measures.items():
+            text = re.sub(r'^(' + re.escape(name) + r' [^=\n]*) = \?$', lambda m: m.group(1) + ' = ' + measure, text, flags=re.M)
+        text = re.sub(r'^((?!\S*Inv|\S*μ)[^\n=]*) = \?$', r'\1 = search needs', text, flags=re.M)
+        keep = '\n'.join(l for l in text.split('\n') if l.startswith('use '))
+        body = '\n'.join(l for l in text.split('\n') if not l.startswith('use ')).lstrip('\n')
+        self.save(fn, head, keep, body)
+
+    def save(self, fn, head, keep, body):
+        made = [l for l in use_lines(keep + '\n' + body, self.crate, 'proofs', '') if l not in keep.split('\n')]
         head = ''.join(f'-- {l}\n' for l in head.strip().split('\n')) if head else ''
         path = f'crates/{self.crate}/proofs/{fn}/Proof.antt'
         os.makedirs(os.path.dirname(path), exist_ok=True)

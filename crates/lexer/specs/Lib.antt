@@ -1,2 +1,3 @@
-pub mod Tokens
+pub mod Rule
+pub mod Body
 pub mod Next

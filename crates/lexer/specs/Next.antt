@@ -5,38 +5,39 @@ use mathlib.Core.Bool.{Bool, false}
 use lib.Dec.{eqb}
 use lib.ListN.{length}
 use Rattle.laws.specs.Bools.{both, pick}
-use Rattle.lexer.specs.Tokens.{behindOne, nextIs, tokenOf}
+use Rattle.lexer.specs.Body.{tokenOf}
+use Rattle.lexer.specs.Rule.{behindOne, nextIs}
 use Rattle.readers.specs.Readers.{lineOf}
 use Rattle.readers.specs.Rules.{Rules, base}
 use Rattle.text.specs.Source.{positionTest}
 use Rattle.text.specs.Utf8.{rest}
 use Rattle.text.specs.declared.source.Tested.the-variants.{IllFormed, Misplaced, Sound, TooLong}
 use Rattle.token.specs.Reads.{refusedOf}
-use Rattle.token.specs.declared.Kind.the-variants.{Shebang}
-use Rattle.token.specs.declared.Read.{Read}
-use Rattle.token.specs.declared.Read.the-variants.{Got, Refused}
+use Rattle.token.specs.declared.kind.Kind.the-variants.{Shebang}
+use Rattle.token.specs.declared.read.Read.{Read}
+use Rattle.token.specs.declared.read.Read.the-variants.{Got, Refused}
 
--- "`#!` at position 0 of the source: shebang, to before the next LF or the end"
 abbrev pub isShebang : List ℕ → Bool
 isShebang [] = false
 isShebang (v ∷ cs) = both (eqb v 35) (nextIs 33 cs)
 
+-- `#!` and the line behind it
 abbrev pub shebangOf : Rules → List ℕ → ℕ → Read
 shebangOf R cs p = behindOne R (λ ds q. behindOne R (lineOf R Shebang p) ds q) cs p
 
--- 12's span ends at the source's end n
+-- 12's span ends where the source does, at n
 abbrev pub closeSpan : ℕ → Read → Read
 closeSpan n (Got k) = Got k
 closeSpan n (Refused r) = pick (eqb (r .number) 12) (refusedOf 12 (r .span .start) n (r .reached)) (Refused r)
 
--- the token at the place p of a source that ends at n, cs being the scalars from p on
+-- the token at p of a source that ends at n; cs are the scalars from p on
 unfoldable pub nextOf : Rules → ℕ → List ℕ → ℕ → Read
 nextOf R n cs p = pick (both (eqb p 0) (isShebang cs)) (shebangOf R cs p) (closeSpan n (tokenOf R 64 cs p))
 
 unfoldable pub nextAt : List ℕ → ℕ → Read
 nextAt s at = nextOf base (length s) (rest s at) at
 
--- "Order: 1, 2, 4, then reading"
+-- 1, 2 and 4 in this order, then reading
 unfoldable pub readAt : List ℕ → ℕ → Read
 readAt s at =
     elim (positionTest s at) [

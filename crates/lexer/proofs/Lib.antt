@@ -1,0 +1,4 @@
+pub mod Choice
+pub mod Landing
+pub mod Turns
+pub mod Sources
