@@ -1,0 +1,3 @@
+pub mod Base
+pub mod Pairs
+pub mod Starts

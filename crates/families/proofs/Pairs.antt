@@ -1,0 +1,72 @@
+-- Two runs side by side: the rule that reads a token, and a scalar of a template's body, decided alike. Assumes nothing.
+use Prim.Native.Nat.{ℕ}
+use mathlib.Core.Path.{_≡_, refl}
+use mathlib.Core.List.{List}
+use mathlib.Core.Bool.{Bool, true, false}
+use lib.Dec.{eqb}
+use borrow.Author.Tests.{eqb-true}
+use Rattle.classes.specs.Classes.{isDigit, isWhiteSpace}
+use Rattle.laws.proofs.Cases.{both-inv, split}
+use Rattle.laws.specs.Bools.{both, pick}
+use Rattle.lexer.specs.Body.{down, goOn, turnOf, up}
+use Rattle.lexer.specs.Rule.{Deep, behindOne, firstOf, foundOr, leftOf, nextIs, otherOf}
+use Rattle.readers.specs.Operators.{operatorOf}
+use Rattle.readers.specs.Readers.{byteOf, charOf, commentOf, lineOf, numberLitOf, startsWord, strOf, whiteOf, wordOf}
+use Rattle.readers.specs.Rules.{Rules}
+use Rattle.readers.specs.declared.operators.Operator.{Operator}
+use Rattle.readers.specs.declared.operators.Operator.the-variants.{Found, Nothing}
+use Rattle.token.specs.Reads.{gotOf, refusedOf}
+use Rattle.token.specs.declared.kind.Kind.{Kind}
+use Rattle.token.specs.declared.kind.Kind.the-variants.{Comment, Template}
+use Rattle.token.specs.declared.read.Read.{Read}
+
+-- how a token is read that starts with the scalar v, twice: the cases that a relation of the two answers has to be shown for, each with its test
+module _ (R R′ : Rules) (t t′ : Deep) (v a a′ : ℕ) (cs cs′ : List ℕ) (p p′ : ℕ) (P : Read → Read → Type 0) where
+  pick-both : (b : Bool) {x y x′ y′ : Read} → (b ≡ true → P x x′) → P y y′ → P (pick b x y) (pick b x′ y′)
+  pick-both true h k = h refl
+  pick-both false h k = k
+
+  pub first-both :
+      ((c : ℕ) → nextIs c cs′ ≡ nextIs c cs) → R′ .start v ≡ R .start v
+      → P (whiteOf R a cs p) (whiteOf R′ a′ cs′ p′)
+      → (both (eqb v 47) (nextIs 47 cs) ≡ true → P (behindOne R (lineOf R Comment a) cs p) (behindOne R′ (lineOf R′ Comment a′) cs′ p′))
+      → (both (eqb v 47) (nextIs 42 cs) ≡ true → P (behindOne R (commentOf R a) cs p) (behindOne R′ (commentOf R′ a′) cs′ p′))
+      → (nextIs 39 cs ≡ true → P (behindOne R (byteOf R a) cs p) (behindOne R′ (byteOf R′ a′) cs′ p′))
+      → (both (eqb v 98) (nextIs 34 cs) ≡ true → P (behindOne R (strOf R true a) cs p) (behindOne R′ (strOf R′ true a′) cs′ p′))
+      → (eqb v 34 ≡ true → P (strOf R false a cs p) (strOf R′ false a′ cs′ p′))
+      → ((k : Kind) (e : ℕ) → operatorOf R v cs p ≡ Found k e → P (gotOf k a e) (otherOf R′ t′ v a′ cs′ p′))
+      → (operatorOf R v cs p ≡ Nothing → operatorOf R′ v cs′ p′ ≡ Nothing)
+      → P (wordOf R v a cs p) (wordOf R′ v a′ cs′ p′) → P (numberLitOf R a cs p) (numberLitOf R′ a′ cs′ p′) → P (charOf R a cs p) (charOf R′ a′ cs′ p′)
+      → (eqb v 96 ≡ true → P (t a cs p) (t′ a′ cs′ p′)) → P (refusedOf 18 a p p) (refusedOf 18 a′ p′ p′) → P (firstOf R t v a cs p) (firstOf R′ t′ v a′ cs′ p′)
+  unfolding firstOf otherOf leftOf
+  first-both alike start white line comment byte bytes str op none word number char deep other =
+      rw (alike 47, alike 42, alike 39, alike 34)
+      (pick-both (isWhiteSpace v) (λ h. white)
+      (pick-both (both (eqb v 47) (nextIs 47 cs)) line
+      (pick-both (both (eqb v 47) (nextIs 42 cs)) comment
+      (pick-both (both (eqb v 98) (nextIs 39 cs)) (λ h. byte (both-inv (eqb v 98) (nextIs 39 cs) h .1))
+      (pick-both (both (eqb v 98) (nextIs 34 cs)) bytes
+      (pick-both (eqb v 34) str
+      (found (operatorOf R v cs p) refl)))))))
+    where
+      left : P (leftOf R t v a cs p) (leftOf R′ t′ v a′ cs′ p′)
+      left =
+          rw start
+          (pick-both (startsWord R v) (λ h. word)
+          (pick-both (isDigit v) (λ h. number) (pick-both (eqb v 39) (λ h. char) (pick-both (eqb v 96) deep other))))
+
+      found : (o : Operator) → operatorOf R v cs p ≡ o → P (foundOr o a (leftOf R t v a cs p)) (otherOf R′ t′ v a′ cs′ p′)
+      found (Found k e) q = op k e q
+      found Nothing q = rw (none q) left
+
+-- one scalar of a template's body, twice
+module _ (next next′ : List ℕ → ℕ → Read) (a a′ v : ℕ) (cs cs′ : List ℕ) (p p′ l : ℕ) (go go′ : ℕ → ℕ → Read) (P : Read → Read → Type 0) where
+  pub turn-both :
+      (v ≡ 96 → P (gotOf (Template true) a p) (gotOf (Template true) a′ p′)) → ((m : ℕ) → P (go 0 m) (go′ 0 m))
+      → P (goOn a (next cs p) (λ t. go t l)) (goOn a′ (next′ cs′ p′) (λ t. go′ t l)) → P (turnOf next a v cs p l go) (turnOf next′ a′ v cs′ p′ l go′)
+  unfolding turnOf
+  turn-both closes further inner =
+      split (eqb v 96) (λ h. split (eqb l 0) (λ i. rw (h, i, turnOf) (closes (eqb-true v 96 h))) (λ i. rw (h, i, turnOf) (further l)))
+      (λ h. split (eqb v 123) (λ i. rw (h, i, turnOf) (further (up l)))
+      (λ i. split (eqb v 125) (λ j. rw (h, i, j, turnOf) (further (down l)))
+      (λ j. split (eqb v 92) (λ k. rw (h, i, j, k, turnOf) inner) (λ k. rw (h, i, j, k, turnOf) (further l)))))

@@ -1,0 +1,10 @@
+-- What rules must keep so that all that is stated here holds of them.
+use Prim.Native.Nat.{ℕ, _<_}
+use mathlib.Core.Path.{_≡_}
+use mathlib.Core.Bool.{false}
+use Rattle.readers.specs.Rules.{Rules}
+
+-- every scalar moves the place, and no word starts with the template's backtick
+pub record Sane (R : Rules) : Type 0 where
+  pub steps : (v : ℕ) → 0 < R .wide v
+  pub tick : R .start 96 ≡ false

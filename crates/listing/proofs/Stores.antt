@@ -1,0 +1,120 @@
+-- One turn of the listing: what is left to list gives the answer, and written behind what is stored it gives the store. Assumes nothing.
+use Prim.Native.Nat.{ℕ, suc, _+_, _-_, _≤_, _<_}
+use mathlib.Core.Path.{_≡_, refl, sym, ap, _∙_}
+use mathlib.Core.List.{List, [], _∷_}
+use native.Mathlib.Omega.{arith}
+use lib.Seq.{sets}
+use lib.ListN.{length, length-set, set}
+use borrow.Author.Tests.{le-ltb, lt-ltb}
+use Rattle.laws.specs.Bools.{same}
+use Rattle.lexer.specs.Next.{nextAt}
+use Rattle.listing.specs.Listing.{answerOf, listOf, noRoom, pointRefusal, storedOf, wordsOf}
+use Rattle.listing.specs.declared.Listed.{Listed}
+use Rattle.listing.specs.declared.Listed.the-variants.{Stopped, Whole}
+use Rattle.numbers.specs.Kinds.{numberOf}
+use Rattle.readers.specs.Rules.{base}
+use Rattle.text.specs.Source.{sourceTest}
+use Rattle.text.specs.declared.source.Tested.{Tested}
+use Rattle.text.specs.declared.source.Tested.the-variants.{IllFormed, Misplaced, Sound, TooLong}
+use Rattle.token.specs.declared.read.Read.{Read}
+use Rattle.token.specs.declared.read.Read.the-variants.{Got, Refused}
+use Rattle.token.specs.declared.read.Refusal.{Refusal}
+use Rattle.token.specs.declared.read.Token.{Token}
+use Rattle.tokens.proofs.Steps.{tokens-fin, tokens-halt, tokens-more, tokens-past, tokens-room, tokens-start}
+use Rattle.tokens.specs.Tokens.{Tokens, fin, halt, more, tokensAt}
+
+store-three : (out w : List ℕ) (n a b c : ℕ) → sets (set (set (set out n a) (n + 1) b) (n + 2) c) (n + 3) w ≡ sets out n (a ∷ (b ∷ (c ∷ w)))
+store-three out w n a b c =
+    let e₁ : n + 1 ≡ suc n = omega arith in
+    let e₂ : n + 2 ≡ suc (suc n) = omega arith in
+    let e₃ : n + 3 ≡ suc (suc (suc n)) = omega arith in
+    λ i. sets (set (set (set out n a) (e₁ i) b) (e₂ i) c) (e₃ i) w
+
+length-three : (out : List ℕ) (n a b c : ℕ) → length (set (set (set out n a) (n + 1) b) (n + 2) c) ≡ length out
+length-three out n a b c = simp length-set
+
+pub record Head (s out₀ out : List ℕ) (at n count : ℕ) : Type 0 where
+  pub answers : answerOf (tokensAt base s at) (length out - n) count ≡ answerOf (tokensAt base s 0) (length out₀) 0
+  pub stores : sets out n (wordsOf (tokensAt base s at) (length out - n)) ≡ sets out₀ 0 (wordsOf (tokensAt base s 0) (length out₀))
+  pub in-source : at ≤ length s
+  pub in-store : n ≤ length out
+  pub same : length out ≡ length out₀
+  pub few : count ≤ at
+
+pub head-first : (s out : List ℕ) → Head s out out 0 0 0
+head-first s out =
+    let z : length out - 0 ≡ length out = omega arith in
+    record {
+      answers = ap (λ (k : ℕ). answerOf (tokensAt base s 0) k 0) z;
+      stores = ap (λ (k : ℕ). sets out 0 (wordsOf (tokensAt base s 0) k)) z;
+      in-source = omega arith;
+      in-store = omega arith;
+      same = refl;
+      few = omega arith;
+    }
+
+module _ (s out₀ out : List ℕ) (at n count : ℕ) (h : Head s out₀ out at n count) where
+  abbrev Done : Listed → Type 0
+  Done x = (x ≡ answerOf (tokensAt base s 0) (length out₀) 0) × (out ≡ sets out₀ 0 (wordsOf (tokensAt base s 0) (length out₀)))
+
+  -- nothing more is written
+  finish : (ts : Tokens) → tokensAt base s at ≡ ts → (x : Listed) → answerOf ts (length out - n) count ≡ x → wordsOf ts (length out - n) ≡ [] → Done x
+  finish ts e x ea ew = (
+    sym ea ∙ ap (λ (t : Tokens). answerOf t (length out - n) count) (sym e) ∙ h .answers,
+    sym (ap (sets out n) ew) ∙ ap (λ (t : Tokens). sets out n (wordsOf t (length out - n))) (sym e) ∙ h .stores,
+  )
+
+  module _ (r : Read) (er : r ≡ nextAt s at) where
+    pub list-halt : (k : Refusal) → r ≡ Refused k → Done (Stopped count k)
+    unfolding answerOf wordsOf
+    list-halt k e = finish (halt k) (tokens-halt s at r er k e) (Stopped count k) refl refl
+
+    module _ (k : Token) (e : r ≡ Got k) where
+      pub list-fin : k .span .end ≡ at → Done (Whole count)
+      unfolding answerOf wordsOf
+      list-fin z = finish fin (tokens-fin s at r er k e z) (Whole count) refl refl
+
+      module _ (z : k .span .end ≡ at → ⊥) where
+        pub list-short : length out - n < 3 → Done (Stopped count (noRoom k))
+        unfolding answerOf wordsOf
+        list-short l =
+            finish (more k (tokensAt base s (k .span .end))) (tokens-more s at r er k e z) (Stopped count (noRoom k)) (rw (lt-ltb (length out - n) 3 l, answerOf)) (rw (lt-ltb (length out - n) 3 l, wordsOf))
+
+        pub list-more : 3 ≤ length out - n → Head s out₀ (set (set (set out n (numberOf (k .kind))) (n + 1) at) (n + 2) (k .span .end)) (k .span .end) (n + 3) (count + 1)
+        unfolding answerOf wordsOf
+        list-more l =
+            let end = k .span .end in
+            let ts = tokensAt base s end in
+            let next = set (set (set out n (numberOf (k .kind))) (n + 1) at) (n + 2) end in
+            let len = length-three out n (numberOf (k .kind)) at end in
+            let left : length next - (n + 3) ≡ length out - n - 3 = omega arith in
+            let whole = tokens-more s at r er k e z in
+            let start = tokens-start s at r er k e in
+            let i = h .in-store in
+            let f = h .few in
+            let past = tokens-past s at r er k e z in
+            record {
+              answers =
+                  ap (λ (m : ℕ). answerOf ts m (count + 1)) left ∙ sym (ap (λ (t : Tokens). answerOf t (length out - n) count) whole ∙ rw (le-ltb (length out - n) 3 l, answerOf)) ∙ h .answers;
+              stores =
+                  ap (λ (m : ℕ). sets next (n + 3) (wordsOf ts m)) left ∙ store-three out (wordsOf ts (length out - n - 3)) n (numberOf (k .kind)) at end
+                  ∙ ap (λ (x : ℕ). sets out n (numberOf (k .kind) ∷ (x ∷ (end ∷ wordsOf ts (length out - n - 3))))) (sym start)
+                  ∙ sym (ap (λ (t : Tokens). sets out n (wordsOf t (length out - n))) whole ∙ rw (le-ltb (length out - n) 3 l, wordsOf)) ∙ h .stores;
+              in-source = tokens-room s at r er k e z;
+              in-store = omega arith;
+              same = len ∙ h .same;
+              few = omega arith;
+            }
+
+        pub list-past : at < k .span .end
+        list-past = tokens-past s at r er k e z
+
+        pub list-room : k .span .end ≤ length s
+        list-room = tokens-room s at r er k e z
+
+-- the tests before, and the whole
+pub by-test : (s : List ℕ) (room : ℕ) (t : Tested) → t ≡ sourceTest s
+    → (listOf s room ≡ elim t [ Sound ↦ answerOf (tokensAt base s 0) room 0 | TooLong ↦ Stopped 0 (pointRefusal 1 0) | IllFormed p ↦ Stopped 0 (pointRefusal 2 p) | Misplaced p ↦ Stopped 0 (pointRefusal 4 p) ])
+    × (storedOf s room ≡ elim t [ Sound ↦ wordsOf (tokensAt base s 0) room | TooLong ↦ [] | IllFormed p ↦ [] | Misplaced p ↦ [] ])
+unfolding listOf storedOf
+by-test s room t e = (rw (← e, listOf), rw (← e, storedOf))

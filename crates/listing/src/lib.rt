@@ -1,0 +1,93 @@
+// The tokens of a source, three words each (kind, start, end), in a lent store; later words keep their content.
+use text::Tested;
+use token::Read;
+use token::Refusal;
+use token::Span;
+ghost use Prim.Native.Nat.{_≤_};
+ghost use mathlib.Core.Path.{_≡_};
+ghost use lib.Seq.{sets};
+ghost use lib.ListN.{length};
+ghost use Rattle.listing.specs.Listing.{answerOf, listOf, pointRefusal, storedOf, wordsOf};
+ghost use Rattle.listing.specs.declared.Listed.the-variants.{Stopped};
+ghost use Rattle.readers.specs.Rules.{base};
+ghost use Rattle.tokens.specs.Tokens.{tokensAt};
+
+// The count of stored tokens, with the refusal that ended the listing if there was one.
+pub enum Listed {
+    Whole { count: usize },
+    Stopped { count: usize, refusal: Refusal },
+}
+
+fn refused_at(number: u32, at: usize) -> Listed
+    ensures { λ r. ⌜ r ≡ Stopped 0 (pointRefusal number at) ⌝ }
+{
+    Listed::Stopped {
+        count: 0,
+        refusal: Refusal {
+            number,
+            span: Span { start: at, end: at },
+            reached: at,
+        },
+    }
+}
+
+// The store has no place for the token just read.
+fn no_room(count: usize, span: Span) -> Listed
+    ensures { λ r. ⌜ r ≡ Stopped count (record { number = 3; span = span; reached = span .end }) ⌝ }
+{
+    let reached = span.end;
+    Listed::Stopped {
+        count,
+        refusal: Refusal {
+            number: 3,
+            span,
+            reached,
+        },
+    }
+}
+
+fn list_tokens(s: &[u8], store: &mut [u32]) -> Listed
+    requires { ⌜ length (now s) ≤ 65536 ⌝ }
+    ensures { λ r. ⌜ (r ≡ answerOf (tokensAt base (now (s .entry)) 0) (length (now (store .entry))) 0)
+        × (now (store .exit) ≡ sets (now (store .entry)) 0 (wordsOf (tokensAt base (now (s .entry)) 0) (length (now (store .entry))))) ⌝ }
+{
+    let mut at: usize = 0;
+    let mut n: usize = 0;
+    let mut count: usize = 0;
+    loop {
+        match lexer::next(s, at) {
+            Read::Refused { refusal } => {
+                return Listed::Stopped { count, refusal };
+            }
+            Read::Got { token } => {
+                let kind = token.kind;
+                let span = token.span;
+                let end = span.end;
+                if end == at {
+                    return Listed::Whole { count };
+                }
+                if store.len() - n < 3 {
+                    return no_room(count, span);
+                }
+                store[n] = numbers::number_of(kind);
+                store[n + 1] = at as u32;
+                store[n + 2] = end as u32;
+                n = n + 3;
+                count = count + 1;
+                at = end;
+            }
+        }
+    }
+}
+
+pub fn list(s: &[u8], store: &mut [u32]) -> Listed
+    ensures { λ r. ⌜ (r ≡ listOf (now (s .entry)) (length (now (store .entry))))
+        × (now (store .exit) ≡ sets (now (store .entry)) 0 (storedOf (now (s .entry)) (length (now (store .entry))))) ⌝ }
+{
+    match text::test_source(s) {
+        Tested::Sound => list_tokens(s, store),
+        Tested::TooLong => refused_at(1, 0),
+        Tested::IllFormed { at } => refused_at(2, at),
+        Tested::Misplaced { at } => refused_at(4, at),
+    }
+}
