@@ -65,6 +65,6 @@ findThree R v [] p = Nothing
 findThree R v (w ∷ []) p = Nothing
 findThree R v (w ∷ (x ∷ cs)) p = foundAt (lookThree threes v w x) (p + R .wide w + R .wide x)
 
--- "the longest of one, two or three characters in the list"
+-- three characters are tried before two, and two before one
 unfoldable pub operatorOf : Rules → ℕ → List ℕ → ℕ → Operator
 operatorOf R v cs p = orElse (findThree R v cs p) (orElse (findTwo R v cs p) (findOne v p))

@@ -1,5 +1,5 @@
--- Document 01, "How one token is read", rule by rule in its order. Each reader takes the scalars behind a token's opening, their place,
--- and the place a where the token started; a refusal's numbers and places are those of "Refusal numbers and places".
+-- Document 01, "How one token is read" with "Refusal numbers and places", rule by rule in its order. A reader takes the scalars behind
+-- a token's opening, their place, and the place a where the token started.
 use Prim.Native.Nat.{ℕ, zero, suc, _+_}
 use mathlib.Core.List.{List, [], _∷_}
 use mathlib.Core.Bool.{Bool, true, false, not}
@@ -20,11 +20,11 @@ runStep f s v cs = pick (f v) (on tt) (before tt)
 unfoldable pub run : Rules → (ℕ → Bool) → List ℕ → ℕ → ℕ
 run R f cs p = scan (runStep f) R tt p cs p .place
 
--- "White_Space: the longest run"
+-- white space
 unfoldable pub whiteOf : Rules → ℕ → List ℕ → ℕ → Read
 whiteOf R a cs p = gotOf Whitespace a (run R isWhiteSpace cs p)
 
--- "`//`: to before LF or the end", and the shebang's end
+-- a line comment and the shebang stop before LF
 abbrev pub inLine : ℕ → Bool
 inLine v = not (eqb v 10)
 
@@ -36,7 +36,7 @@ abbrev pub passOne : Rules → List ℕ → ℕ → ℕ
 passOne R [] p = p
 passOne R (v ∷ cs) p = p + R .wide v
 
--- "`/*`: the next two scalars are skipped; then the first `*/` closes. With none, kind 4 to the end."
+-- a comment: so many scalars are skipped untested, and then the first `*/` closes; what nothing closes is unclosed, and goes to the end
 pub data Comments : Type 0 where
   skips : ℕ → Comments
   starred : Comments
@@ -55,7 +55,7 @@ unfoldable pub commentOf : Rules → ℕ → List ℕ → ℕ → Read
 commentOf R a cs p =
     let o = scan commentStep R (skips (R .skip)) p cs p in gotOf (MultilineComment (closedBy (o .how))) a (o .place)
 
--- "`b'`: one scalar is skipped untested; then scalars to the next `'`. A backslash met in this walk takes one more scalar."
+-- a byte: its first scalar is not tested, behind that a quote closes and a backslash takes the scalar behind it along
 pub data Bytes : Type 0 where
   fresh : Bytes
   body : Bytes
@@ -80,7 +80,7 @@ byteAnswer a body l p short = refusedOf 14 a p p
 unfoldable pub byteOf : Rules → ℕ → List ℕ → ℕ → Read
 byteOf R a cs p = let o = scan byteStep R fresh p cs p in byteAnswer a (o .state) (o .last) (o .place) (o .how)
 
--- "`b"` and `"`: to the next `"`; a backslash takes one more scalar."
+-- a string or byte string: a quote closes, a backslash takes the scalar behind it along and sets the escape mark
 pub data Quoted : Type 0 where
   text : Bool → Quoted
   slashed : Bool → Quoted
@@ -108,14 +108,14 @@ strAnswer b a (text e) l p short = refusedOf (strNumber b) a p p
 unfoldable pub strOf : Rules → Bool → ℕ → List ℕ → ℕ → Read
 strOf R b a cs p = let o = scan strStep R (text false) p cs p in strAnswer b a (o .state) (o .last) (o .place) (o .how)
 
--- "Words: `_` or XID_Start, then XID_Continue"; a lone `_` is kind 7
+-- a word: its first letter was read already; a lone `_` is a kind of its own
 abbrev pub startsWord : Rules → ℕ → Bool
 startsWord R v = either (eqb v 95) (R .start v)
 
 unfoldable pub wordOf : Rules → ℕ → ℕ → List ℕ → ℕ → Read
 wordOf R v a cs p = let e = run R (R .continue) cs p in gotOf (pick (both (eqb v 95) (eqb e p)) Underscore Ident) a e
 
--- "Numbers: a digit, then the longest run of ASCII letters, digits and `_`; one `.` directly followed by a digit is taken with its run, at most once"
+-- a number: ASCII letters, digits and `_`; once, a `.` with a digit right behind it belongs to it too
 abbrev pub inNumber : ℕ → Bool
 inNumber v = either (isDigit v) (either (within 65 90 v) (either (within 97 122 v) (eqb v 95)))
 
@@ -134,7 +134,7 @@ numberStep fractional v cs = pick (inNumber v) (on fractional) (before fractiona
 unfoldable pub numberLitOf : Rules → ℕ → List ℕ → ℕ → Read
 numberLitOf R a cs p = gotOf Number a (scan numberStep R integral p cs p .place)
 
--- "`'`: a count at 0, "label" true ..": the first flag is "label", the second says that the count is above 0
+-- a char or a label: the first flag says that it may still be a label, the second that something was counted
 pub data Chars : Type 0 where
   letters : Bool → Bool → Chars
   escape : Chars
