@@ -1,0 +1,74 @@
+KINDS = 60
+K = '(@Start .args .kind) (@number-of .result) (@number-of .ensures)'
+low = 'within-low {0} {1} (@number-of .result) (omega arith)'.format
+high = 'within-high {0} {1} (@number-of .result) (omega arith)'.format
+fill('opens', {
+    'returns': f'opens-two {K} (omega arith) (omega arith)',
+    'returns-2': f'opens-b {K} (omega arith) (omega arith)',
+    'returns-3': f'opens-none {K} ({low(2, 4)}) ({low(11, 14)}) (@match .rest .1)',
+    'returns-4': f'opens-none {K} ({high(2, 4)}) ({low(11, 14)}) (@match .rest .1)',
+    'returns-5': f'opens-none {K} ({high(2, 4)}) ({high(11, 14)}) (@match .rest .1)',
+    'returns-6': f'opens-template {K} (@match .keys1)',
+    'returns-7': f'opens-one {K} (omega arith) (omega arith)'})
+tags = ' ∷ '.join(str(i) for i in range(KINDS) if i != 12) + ' ∷ []'
+fill('is_shut', {
+    'returns': f'sym (shut-other (@Start .args .kind) (λ e. miss ({tags}) 12 tt (subst (λ (x : ℕ). OneOf ({tags}) x) e (@match .keys2))))',
+    'returns-2': ('isShut', 'sym (ap isShut (@kind .given .1))')}, uses='use types.Run.{OneOf, miss}')
+fill('closes', {
+    'returns': f'closes-comment {K} (@if1 .taken)',
+    'returns-2': f'sym (ap (λ (b : Bool). pick b 1 0) (@if3 .taken)) ∙ closes-template {K} (@if2 .taken) (@is-shut .result) (@is-shut .ensures)',
+    'returns-3': f'sym (ap (λ (b : Bool). pick b 1 0) (@if3 .left)) ∙ closes-template {K} (@if2 .taken) (@is-shut .result) (@is-shut .ensures)',
+    'returns-4': f'closes-quote {K} (omega arith) (omega arith)',
+    'returns-5': f'closes-none {K} (@if1 .left) (@if2 .left) ({low(11, 14)})',
+    'returns-6': f'closes-none {K} (@if1 .left) (@if2 .left) ({high(11, 14)})'})
+A = '(@Start .args .b) (@Start .args .inside) (@Start .args .i) (@Start .args .lo) (@Start .args .kept) (@Start .args .left)'
+fill('shade', {
+    'returns': f'shade-in {A} (@if1 .taken) (@if2 .taken) (@if3 .taken)',
+    'returns-2': f'shade-behind {A} (@if1 .taken) (@if2 .taken) (@if3 .left)',
+    'returns-3': f'shade-before {A} (@if1 .taken) (@if2 .left)',
+    'returns-4': 'sym (simp (@if1 .left))'})
+F = {'m': '(between (@Start .args .inside) (@Start .args .lo) (@Start .args .kept) (@Start .args .e))', 's': '(@Start .args .s .now)', 'i': '(@loop .i)', 'e': '(@Start .args .e)'}
+fill('fill', {
+    'Inv-loop': '(sets out i (paint (between inside lo kept e) (slice i e s) i) ≡ sets out₀ a (paint (between inside lo kept e) (slice a e s) a)) × (length out ≡ length out₀)',
+    'μ-loop': 'e - i',
+    'loop-holds': '(refl, refl)',
+    'shared-slice-read-shade': 'omega (arith, @Start .pre .0)',
+    'slice-write-out': 'omega (arith, @Start .pre .1, @loop .inv .1)',
+    'add-i': 'omega (arith, @Start .pre .0, @Start .fits)',
+    'loop-less': 'omega arith',
+    'loop-again': '(fill-one $m$ (@loop .out) $s$ $i$ $e$ (@shade .result) (@loop-test .taken) (@Start .pre .0) (@shade .ensures ∙ ap (λ (z : Bool). pick (both (@Start .args .inside) (both (leb (@Start .args .lo) $i$) z)) 0x78 (getD $s$ $i$ 0)) (left-of $i$ (@Start .args .kept) $e$ (@loop-test .taken))) ∙ @loop .inv .0, simp length-set (@loop .inv .1))',
+    'same-length': '@loop .inv .1',
+    'returns': 'fill-none $m$ (@loop .out) $s$ $i$ $e$ (@loop-test .left) (@Start .pre .0) ∙ @loop .inv .0'}, macros=F)
+M = {'h': '(@Start .args .s .now) (@Start .args .out .now) (@loop .out) (@loop .at) (@loop .inv) (@next .result) (@next .ensures)',
+     'k': '(@token .given .0 .0) (@token .given .1)', 'kind': '(@token .given .0 .0 .kind)',
+     'room': '(shade-room $h$ $k$ (@if1 .left))', 'past': '(shade-past $h$ $k$ (@if1 .left))'}
+fits = '(omega arith, omega (arith, @loop .inv))'
+fill('outline_tokens', {
+    'Inv-loop': 'Shaded s out₀ out at', 'μ-loop': 'length s - at',
+    'loop-holds': 'shaded-first _ _ (@Start .pre)',
+    'fill-requires': fits, 'fill-requires-2': fits,
+    'same-length': '@fill .kept .1 .0 ∙ @loop .inv .same', 'same-length-2': '@fill2 .kept .1 .0 ∙ @loop .inv .same',
+    'returns': 'shade-halt $h$ (@refusal .given .0 .0) (@refusal .given .1) _ (@fill .ensures)',
+    'returns-2': 'shade-fin $h$ $k$ (@if1 .taken) _ (@fill2 .ensures)',
+    'add-fill': 'omega (arith, @opens .ensures, open-few $kind$ (numberOf $kind$) refl, @loop .inv, @Start .good)',
+    'fill-requires-3': '($room$, omega (arith, $room$, @loop .inv))',
+    'loop-less': 'omega (arith, $past$, $room$)',
+    'loop-again': 'shade-more $h$ $k$ (@if1 .left) (@has-inside .result) (@loop .at + @opens .result) (@closes .result) (@has-inside .ensures) (ap (λ (z : ℕ). @loop .at + z) (@opens .ensures)) (@closes .ensures) _ (@fill3 .kept .1 .0) (@fill3 .ensures)'}, macros=M)
+W = {'s': '(@Start .args .s .now)', 'o': '(@Start .args .out .now)', 'r': '(length $o$)'}
+fill('outline_fitting', {
+    'returns': '(@refused-at .ensures ∙ sym (simp (lt-ltb _ _ (@if1 .taken))), sym (simp (lt-ltb _ _ (@if1 .taken))))',
+    'outline-tokens-requires': '@if1 .left',
+    'same-length': '@outline-tokens .kept .1 .0',
+    'returns-2': '(@outline-tokens .ensures .0 ∙ sym (simp (le-ltb _ _ (@if1 .left))), @outline-tokens .ensures .1 ∙ sym (simp (le-ltb _ _ (@if1 .left))))'}, macros=W)
+
+
+def refused(call, case, told):
+    return f'let w = by-test $s$ $r$ {case} (sym ({told}) ∙ @test-source .ensures) in (@{call} .ensures ∙ sym (w .0), sym (ap (sets $o$ 0) (w .1)))'
+
+
+fill('outline', {
+    'same-length': '@outline-fitting .kept .1 .0',
+    'returns': 'let w = by-test $s$ $r$ Sound (sym (@enum-told .given .1) ∙ @test-source .ensures) in (@outline-fitting .ensures .0 ∙ sym (w .0), @outline-fitting .ensures .1 ∙ sym (ap (sets $o$ 0) (w .1)))',
+    'returns-2': refused('refused-at', 'TooLong', '@enum-told2 .given .1'),
+    'returns-3': refused('refused-at2', '(IllFormed (@at .given .0 .0))', '@at .given .1'),
+    'returns-4': refused('refused-at3', '(Misplaced (@at2 .given .0 .0))', '@at2 .given .1')}, macros=W)

@@ -1,0 +1,90 @@
+-- Document 01, the outline: x over every byte inside a token, the source elsewhere.
+use Prim.Native.Nat.{ℕ, suc, _+_}
+use mathlib.Core.List.{List, [], _∷_}
+use mathlib.Core.Bool.{Bool, true, false}
+use lib.Dec.{leb, ltb, eqb}
+use lib.ListN.{length}
+use Rattle.laws.specs.Bools.{both, pick, within}
+use Rattle.numbers.specs.Kinds.{hasInside, numberOf}
+use Rattle.outline.specs.Shut.{isShut}
+use Rattle.outline.specs.declared.Outlined.{Outlined}
+use Rattle.outline.specs.declared.Outlined.the-variants.{Stopped, Whole}
+use Rattle.readers.specs.Rules.{Rules, base}
+use Rattle.text.specs.Source.{sourceTest}
+use Rattle.text.specs.declared.source.Tested.the-variants.{IllFormed, Misplaced, Sound, TooLong}
+use Rattle.token.specs.Reads.{pointOf}
+use Rattle.token.specs.declared.kind.Kind.{Kind}
+use Rattle.token.specs.declared.read.Refusal.{Refusal}
+use Rattle.token.specs.declared.read.Token.{Token}
+use Rattle.tokens.specs.Tokens.{Tokens, fin, halt, more, tokensAt}
+
+-- the marks that stay before and behind an inside, each scalar of one byte
+unfoldable pub openMark : Kind → List ℕ
+openMark k =
+    let n = numberOf k in
+    pick (eqb n 2) (47 ∷ 47 ∷ [])
+    (pick (within 3 4 n) (47 ∷ 42 ∷ [])
+    (pick (within 11 12 n) (34 ∷ [])
+    (pick (within 13 14 n) (98 ∷ 34 ∷ [])
+    (pick (eqb n 16) (96 ∷ []) []))))
+
+-- a closing mark stays only where it closed the token
+unfoldable pub closeMark : Kind → List ℕ
+closeMark k =
+    let n = numberOf k in
+    pick (eqb n 3) (42 ∷ 47 ∷ [])
+    (pick (within 11 14 n) (34 ∷ [])
+    (pick (both (eqb n 16) (isShut k)) (96 ∷ []) []))
+
+-- the byte at i lies inside the token k
+unfoldable pub insideToken : Token → ℕ → Bool
+insideToken k i =
+    both (hasInside (k .kind))
+    (both (leb (k .span .start + length (openMark (k .kind))) i) (ltb (i + length (closeMark (k .kind))) (k .span .end)))
+
+-- .. inside one of the tokens: the first that ends past it decides, and nothing of a refused one is inside
+unfoldable pub insideAt : Tokens → ℕ → Bool
+insideAt fin i = false
+insideAt (halt r) i = false
+insideAt (more k ts) i = elim (ltb i (k .span .end)) [ true ↦ insideToken k i | false ↦ insideAt ts i ]
+
+-- x over the bytes at the places that m picks; the first of the bytes stands at p
+unfoldable pub paint : (ℕ → Bool) → List ℕ → ℕ → List ℕ
+paint m [] p = []
+paint m (b ∷ s) p = pick (m p) 0x78 b ∷ paint m s (suc p)
+
+unfoldable pub outlined : Rules → List ℕ → List ℕ
+outlined R s = paint (insideAt (tokensAt R s 0)) s 0
+
+-- the refusal that ended the tokens is answered too
+unfoldable pub answerOf : Tokens → Outlined
+answerOf fin = Whole
+answerOf (halt r) = Stopped r
+answerOf (more k ts) = answerOf ts
+
+abbrev pub pointRefusal : ℕ → ℕ → Refusal
+pointRefusal number p = record { number = number; span = pointOf p; reached = p }
+
+-- 1, 2, then 3 for a buffer shorter than the source
+unfoldable pub outlineOf : List ℕ → ℕ → Outlined
+outlineOf s room =
+    elim (sourceTest s) [
+      | Sound ↦ pick (ltb room (length s)) (Stopped (pointRefusal 3 0)) (answerOf (tokensAt base s 0))
+      | TooLong ↦ Stopped (pointRefusal 1 0)
+      | IllFormed p ↦ Stopped (pointRefusal 2 p)
+      | Misplaced p ↦ Stopped (pointRefusal 4 p)
+    ]
+
+-- what is written to the front of the buffer: nothing by these three
+unfoldable pub writtenOf : List ℕ → ℕ → List ℕ
+writtenOf s room =
+    elim (sourceTest s) [
+      | Sound ↦ pick (ltb room (length s)) [] (outlined base s)
+      | TooLong ↦ []
+      | IllFormed p ↦ []
+      | Misplaced p ↦ []
+    ]
+
+-- a byte at i of a piece up to e, with an inside from lo on that ends `kept` bytes before e
+abbrev pub between : Bool → ℕ → ℕ → ℕ → ℕ → Bool
+between inside lo kept e i = both inside (both (leb lo i) (ltb (i + kept) e))

@@ -1,0 +1,156 @@
+// A source with x over every byte inside its strings, byte strings, comments and templates, in a lent buffer. One pass, each token read once.
+use text::Tested;
+use token::Kind;
+use token::Read;
+use token::Refusal;
+use token::Span;
+ghost use Prim.Native.Nat.{_≤_};
+ghost use mathlib.Core.Path.{_≡_};
+ghost use mathlib.Core.List.{[]};
+ghost use lib.Dec.{leb, ltb};
+ghost use lib.Seq.{sets, slice};
+ghost use lib.ListN.{length};
+ghost use Rattle.laws.specs.Bools.{both, pick};
+ghost use Rattle.outline.specs.Outline.{answerOf, between, closeMark, openMark, outlineOf, outlined, paint, pointRefusal, writtenOf};
+ghost use Rattle.outline.specs.Shut.{isShut};
+ghost use Rattle.outline.specs.declared.Outlined.the-variants.{Stopped};
+ghost use Rattle.readers.specs.Rules.{base};
+ghost use Rattle.tokens.specs.Tokens.{tokensAt};
+
+pub enum Outlined {
+    Whole,
+    Stopped { refusal: Refusal },
+}
+
+fn refused_at(number: u32, at: usize) -> Outlined
+    ensures { λ r. ⌜ r ≡ Stopped (pointRefusal number at) ⌝ }
+{
+    Outlined::Stopped {
+        refusal: Refusal {
+            number,
+            span: Span { start: at, end: at },
+            reached: at,
+        },
+    }
+}
+
+// How many bytes of a token stay before its inside.
+fn opens(kind: Kind) -> usize
+    ensures { λ r. ⌜ r ≡ length (openMark kind) ⌝ }
+{
+    match numbers::number_of(kind) {
+        2..=4 | 13..=14 => 2,
+        11..=12 | 16 => 1,
+        _ => 0,
+    }
+}
+
+fn is_shut(kind: Kind) -> bool
+    ensures { λ r. ⌜ r ≡ isShut kind ⌝ }
+{
+    let Kind::Template { closed } = kind else {
+        return false;
+    };
+    closed
+}
+
+// How many stay behind it.
+fn closes(kind: Kind) -> usize
+    ensures { λ r. ⌜ r ≡ length (closeMark kind) ⌝ }
+{
+    let n = numbers::number_of(kind);
+    if n == 3 {
+        return 2;
+    }
+    if n == 16 {
+        if is_shut(kind) {
+            return 1;
+        }
+        return 0;
+    }
+    match n {
+        11..=14 => 1,
+        _ => 0,
+    }
+}
+
+// The byte b, or x where it lies inside; `left` bytes of its piece are left from it on.
+fn shade(b: u8, inside: bool, i: usize, lo: usize, kept: usize, left: usize) -> u8
+    ensures { λ r. ⌜ r ≡ pick (both inside (both (leb lo i) (ltb kept left))) 0x78 b ⌝ }
+{
+    if inside {
+        if lo <= i {
+            if kept < left {
+                return 0x78;
+            }
+        }
+    }
+    b
+}
+
+// The bytes of a source from a up to e, those inside as x.
+fn fill(s: &[u8], out: &mut [u8], a: usize, e: usize, inside: bool, lo: usize, kept: usize)
+    requires { ⌜ (e ≤ length (now s)) × (e ≤ length (now out)) ⌝ }
+    ensures { λ _. ⌜ now (out .exit) ≡ sets (now (out .entry)) a (paint (between inside lo kept e) (slice a e (now (s .entry))) a) ⌝ }
+{
+    let mut i = a;
+    while i < e {
+        out[i] = shade(s[i], inside, i, lo, kept, e - i);
+        i = i + 1;
+    }
+}
+
+fn outline_tokens(s: &[u8], out: &mut [u8]) -> Outlined
+    requires { ⌜ length (now s) ≤ length (now out) ⌝ }
+    ensures { λ r. ⌜ (r ≡ answerOf (tokensAt base (now (s .entry)) 0)) × (now (out .exit) ≡ sets (now (out .entry)) 0 (outlined base (now (s .entry)))) ⌝ }
+{
+    let mut at: usize = 0;
+    loop {
+        match lexer::next(s, at) {
+            Read::Refused { refusal } => {
+                fill(s, out, at, s.len(), false, 0, 0);
+                return Outlined::Stopped { refusal };
+            }
+            Read::Got { token } => {
+                let kind = token.kind;
+                let span = token.span;
+                let end = span.end;
+                if end == at {
+                    fill(s, out, at, s.len(), false, 0, 0);
+                    return Outlined::Whole;
+                }
+                fill(
+                    s,
+                    out,
+                    at,
+                    end,
+                    numbers::has_inside(kind),
+                    at + opens(kind),
+                    closes(kind),
+                );
+                at = end;
+            }
+        }
+    }
+}
+
+fn outline_fitting(s: &[u8], out: &mut [u8]) -> Outlined
+    ensures { λ r. ⌜ (r ≡ pick (ltb (length (now (out .entry))) (length (now (s .entry)))) (Stopped (pointRefusal 3 0)) (answerOf (tokensAt base (now (s .entry)) 0)))
+        × (now (out .exit) ≡ sets (now (out .entry)) 0 (pick (ltb (length (now (out .entry))) (length (now (s .entry)))) [] (outlined base (now (s .entry))))) ⌝ }
+{
+    if out.len() < s.len() {
+        return refused_at(3, 0);
+    }
+    outline_tokens(s, out)
+}
+
+pub fn outline(s: &[u8], out: &mut [u8]) -> Outlined
+    ensures { λ r. ⌜ (r ≡ outlineOf (now (s .entry)) (length (now (out .entry)))) × (now (out .exit) ≡ sets (now (out .entry)) 0 (writtenOf (now (s .entry)) (length (now (out .entry))))) ⌝ }
+{
+    match text::test_source(s) {
+        Tested::Sound => outline_fitting(s, out),
+        Tested::TooLong => refused_at(1, 0),
+        Tested::IllFormed { at } => refused_at(2, at),
+        Tested::Misplaced { at } => refused_at(4, at),
+    }
+}
