@@ -1,3 +1,14 @@
 pub mod Base
 pub mod Pairs
 pub mod Starts
+pub mod Ends
+pub mod Nearby
+pub mod Looks
+pub mod Local
+pub mod Carried
+pub mod Moves
+pub mod Counted
+pub mod Insides
+pub mod Shapes
+pub mod Painted
+pub mod Shown

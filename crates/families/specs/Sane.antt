@@ -8,3 +8,7 @@ use Rattle.readers.specs.Rules.{Rules}
 pub record Sane (R : Rules) : Type 0 where
   pub steps : (v : ℕ) → 0 < R .wide v
   pub tick : R .start 96 ≡ false
+
+-- the same with another number of scalars passed over after `/*`
+abbrev pub withSkip : Rules → ℕ → Rules
+withSkip R n = record { wide = R .wide; skip = n; start = R .start; continue = R .continue }

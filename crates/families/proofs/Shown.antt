@@ -1,0 +1,59 @@
+-- An accepted token with an inside, its inside painted and other scalars behind it: the same kind up to the escape mark, the same span. Assumes nothing.
+use Prim.Native.Nat.{ℕ, zero, suc, _+_, _≤_}
+use mathlib.Core.Path.{_≡_, refl, sym, ap, _∙_}
+use mathlib.Core.List.{List, [], _∷_}
+use mathlib.Core.Bool.{true, false}
+use native.Mathlib.Omega.{arith}
+use lib.ListN.{length}
+use Rattle.families.proofs.Painted.{near-fits, token-painted}
+use Rattle.families.proofs.Starts.{got-start}
+use Rattle.families.specs.Near.{Near}
+use Rattle.families.specs.Places.{placeAfter}
+use Rattle.families.specs.Sane.{Sane}
+use Rattle.families.specs.Shape.{Form, Framed, closeMark, commentForm, formKind, lineForm, openMark, painted, plainForm, stringForm, templateForm, xs}
+use Rattle.lexer.specs.Body.{tokenOf}
+use Rattle.numbers.proofs.Inverse.{plain-byte-str, plain-str}
+use Rattle.numbers.specs.Kinds.{kinds, numberOf, plainKind}
+use Rattle.readers.specs.Rules.{Rules}
+use Rattle.token.specs.Reads.{gotOf}
+use Rattle.token.specs.declared.read.Read.the-variants.{Got}
+use Rattle.token.specs.declared.read.Token.{Token}
+
+plain-form : (form : Form) → formKind (plainForm form) ≡ plainKind (formKind form)
+unfolding numberOf
+plain-form lineForm = refl
+plain-form (commentForm true) = refl
+plain-form (commentForm false) = refl
+plain-form (stringForm true e) = sym (plain-byte-str e)
+plain-form (stringForm false e) = sym (plain-str e)
+plain-form (templateForm c) = refl
+
+module _ (R : Rules) where
+  pub after-shift : (f : List ℕ) (p : ℕ) → placeAfter R f p ≡ p + placeAfter R f 0
+  unfolding placeAfter
+  after-shift [] p = omega arith
+  after-shift (v ∷ f) p = let a = after-shift f (p + R .wide v) in let b = after-shift f (0 + R .wide v) in omega arith
+
+  pub after-xs : R .wide 120 ≡ 1 → (j p : ℕ) → placeAfter R (xs j) p ≡ p + j
+  unfolding placeAfter xs
+  after-xs one zero p = omega arith
+  after-xs one (suc j) p = let a = after-xs one j (p + R .wide 120) in omega arith
+
+  -- a scalar moves the place by one at least
+  pub after-long : Sane R → (f : List ℕ) (p : ℕ) → p + length f ≤ placeAfter R f p
+  unfolding placeAfter
+  after-long sane [] p = omega arith
+  after-long sane (v ∷ f) p = let a = after-long sane f (p + R .wide v) in let s = sane .steps v in omega arith
+
+  -- where an x takes one place
+  module _ (sane : Sane R) (one : R .wide 120 ≡ 1) (d : ℕ) (cs : List ℕ) (p : ℕ) (k : Token) (e : tokenOf R (suc d) cs p ≡ Got k) (f : Framed R cs p k) where
+    pub token-shown : (y : List ℕ) → Near (f .back) y → tokenOf R (suc d) (painted R (f .form) (f .mid) y) p ≡ Got (record { kind = plainKind (k .kind); span = k .span })
+    token-shown y h =
+        let j = placeAfter R (f .mid) 0 in
+        let q = placeAfter R (openMark (f .form)) p in
+        let fits = near-fits (R .skip) (f .form) (f .mid) (f .back) j y (f .fits) (let l = after-long sane (f .mid) 0 in omega arith) h in
+        let kinds : formKind (plainForm (f .form)) ≡ plainKind (k .kind) = plain-form (f .form) ∙ ap plainKind (sym (f .kind)) in
+        let starts : p ≡ k .span .start = sym (got-start R (suc d) cs p k e) in
+        let mids : placeAfter R (xs j) q ≡ placeAfter R (f .mid) q = after-xs one j q ∙ sym (after-shift (f .mid) q) in
+        let ends : placeAfter R (closeMark (f .form)) (placeAfter R (xs j) q) ≡ k .span .end = ap (placeAfter R (closeMark (f .form))) mids ∙ sym (f .ends) in
+        token-painted R sane d (f .form) j y p fits ∙ (λ i. gotOf (kinds i) (starts i) (ends i))
