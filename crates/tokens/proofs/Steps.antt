@@ -4,46 +4,27 @@ use mathlib.Core.Path.{_≡_, refl, sym, ap, _∙_, subst}
 use mathlib.Core.List.{List, [], _∷_}
 use mathlib.Core.Logic.{inl, inr}
 use native.Mathlib.Omega.{arith}
-use lib.Dec.{eqb}
 use lib.ListN.{length}
 use borrow.Author.Tests.{le-ltb, lt-ltb}
+use Rattle.families.proofs.Ends.{next-consumes}
 use Rattle.families.proofs.Starts.{next-start}
-use Rattle.laws.proofs.Cases.{both-false, never, split}
-use Rattle.laws.specs.Bools.{both}
-use Rattle.lexer.proofs.Landing.{token-consumes}
+use Rattle.laws.proofs.Cases.{both-false, never}
 use Rattle.lexer.specs.Body.{tokenOf}
-use Rattle.lexer.specs.Next.{closeSpan, isShebang, nextAt, nextOf}
-use Rattle.lexer.specs.Rule.{behindOne, tokenWith}
-use Rattle.readers.proofs.Lands.{Lands, lands-le, lands-room, line-lands}
-use Rattle.readers.specs.Readers.{lineOf}
+use Rattle.lexer.specs.Next.{nextAt, nextOf}
+use Rattle.lexer.specs.Rule.{tokenWith}
+use Rattle.readers.proofs.Lands.{Lands, lands-le, lands-room}
 use Rattle.readers.specs.Rules.{Rules, base}
 use Rattle.text.proofs.Decode.{Step, after-step, by-step, rest-tail, width-pos}
 use Rattle.text.specs.Utf8.{after, rest, width}
 use Rattle.token.specs.Reads.{gotOf, reachedOf}
-use Rattle.token.specs.declared.kind.Kind.the-variants.{Eof, Shebang}
+use Rattle.token.specs.declared.kind.Kind.the-variants.{Eof}
 use Rattle.token.specs.declared.read.Read.{Read}
 use Rattle.token.specs.declared.read.Read.the-variants.{Got, Refused}
 use Rattle.token.specs.declared.read.Refusal.{Refusal}
 use Rattle.token.specs.declared.read.Token.{Token}
 use Rattle.tokens.specs.Tokens.{eachOf, fin, halt, more, tokensAt, tokensOf}
 
--- where the public reader stops, and what it does at the end
-close-reached : (n : ℕ) (r : Read) → reachedOf (closeSpan n r) ≡ reachedOf r
-close-reached n (Got k) = refl
-close-reached n (Refused r) = split (eqb (r .number) 12) (λ e. rw (e, reachedOf)) (λ e. rw (e, reachedOf))
-
 module _ (R : Rules) where
-  bang-lands : (p : ℕ) (cs : List ℕ) (q : ℕ) → Lands R cs q (reachedOf (behindOne R (lineOf R Shebang p) cs q))
-  bang-lands p [] q = line-lands R p [] q Shebang
-  bang-lands p (v ∷ cs) q = inr (line-lands R p cs (q + R .wide v) Shebang)
-
-  -- a scalar is passed in any case
-  pub next-consumes : (n v : ℕ) (cs : List ℕ) (p : ℕ) → Lands R cs (p + R .wide v) (reachedOf (nextOf R n (v ∷ cs) p))
-  unfolding nextOf
-  next-consumes n v cs p =
-      split (both (eqb p 0) (isShebang (v ∷ cs))) (λ e. rw e (bang-lands p cs (p + R .wide v)))
-      (λ e. rw e (rw (close-reached n (tokenOf R 64 (v ∷ cs) p)) (token-consumes R 64 v cs p)))
-
   arrived : (n : ℕ) (cs : List ℕ) (t : ℕ) → tokensOf R n t cs t ≡ tokensOf R n 0 cs t
   unfolding tokensOf
   arrived n [] t = refl
