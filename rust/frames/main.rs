@@ -16,13 +16,19 @@ use std::process::ExitCode;
 
 use sink::Sink;
 
-const USAGE: &str = "frames list-short N | list-random COUNT SEED | escape-short N | escape-random COUNT SEED
+const USAGE: &str = "frames [--only MODES] list-short N | list-random COUNT SEED | escape-short N | escape-random COUNT SEED
      | look-short | look-random COUNT SEED | scalars
      | examples-list | examples-escape | examples-look | examples-long";
 
 fn main() -> ExitCode {
-    let arguments: Vec<String> = std::env::args().skip(1).collect();
-    let mut sink = Sink::new();
+    let mut arguments: Vec<String> = std::env::args().skip(1).collect();
+    let mut only = Vec::new();
+
+    if arguments.len() > 1 && arguments[0] == "--only" {
+        only = arguments.drain(..2).nth(1).unwrap_or_default().into_bytes();
+    }
+
+    let mut sink = Sink::new(only);
 
     match make(&arguments, &mut sink).map(|made| made.and_then(|()| sink.end())) {
         Some(Ok(())) => ExitCode::SUCCESS,

@@ -2,17 +2,28 @@
 
 use std::io::{self, BufWriter, StdoutLock, Write};
 
-pub(crate) struct Sink(BufWriter<StdoutLock<'static>>);
+pub(crate) struct Sink {
+    out: BufWriter<StdoutLock<'static>>,
+    /// The modes that are written; none named: all.
+    only: Vec<u8>,
+}
 
 impl Sink {
-    pub(crate) fn new() -> Self {
-        Self(BufWriter::with_capacity(1 << 20, io::stdout().lock()))
+    pub(crate) fn new(only: Vec<u8>) -> Self {
+        Self {
+            out: BufWriter::with_capacity(1 << 20, io::stdout().lock()),
+            only,
+        }
     }
 
     pub(crate) fn frame(&mut self, mode: u8, payload: &[u8]) -> io::Result<()> {
-        self.0.write_all(&[mode])?;
-        self.0.write_all(&(payload.len() as u32).to_le_bytes())?;
-        self.0.write_all(payload)
+        if !self.only.is_empty() && !self.only.contains(&mode) {
+            return Ok(());
+        }
+
+        self.out.write_all(&[mode])?;
+        self.out.write_all(&(payload.len() as u32).to_le_bytes())?;
+        self.out.write_all(payload)
     }
 
     pub(crate) fn script(&mut self, keep: bool, source: &[u8], ops: &[(u8, u8)]) -> io::Result<()> {
@@ -24,6 +35,6 @@ impl Sink {
     }
 
     pub(crate) fn end(&mut self) -> io::Result<()> {
-        self.0.flush()
+        self.out.flush()
     }
 }
