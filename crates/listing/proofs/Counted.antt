@@ -58,7 +58,7 @@ three-words s room = by-source (sourceTest s) refl
 pub counted : (s : List ℕ) (room : ℕ) → sourceTest s ≡ Sound → 3 * countOf (tokensAt base s 0) ≤ room → countIn (listOf s room) ≡ countOf (tokensAt base s 0)
 counted s room e h = rw (by-test s room Sound (sym e) .0) (let z = counted-from (tokensAt base s 0) room 0 h in omega arith)
 
--- an accepted source had that room
+-- the count of an accepted source is that of its tokens
 pub whole-counted : (s : List ℕ) (room m : ℕ) → listOf s room ≡ Whole m → m ≡ countOf (tokensAt base s 0)
 whole-counted s room m h = by-source (sourceTest s) refl
   where
