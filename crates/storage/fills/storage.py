@@ -69,3 +69,22 @@ fill('records/put_words', {
     'loop-again': 'writes-more $w$ $l$ _ (token-stores $s$ (@loop .out) $at$ $from$ (@wide .ensures) (@word-at .ensures) (@word-at2 .ensures))',
     'same-length': '@loop .inv .same', 'returns': 'writes-end $w$ (omega (arith, @loop-test .left))'},
     macros=Q, head='The invariant: what is left, written behind what is stored, gives the whole. Assumes nothing.')
+
+
+def stored(call, put, rows, row, size, whole, long):
+    s, o, out = f'(@Start .args .{"list" if size == 3 else "bytes"} .now)', '(@Start .args .out .now)', f'({put} ({rows} $s$))'
+    m = {'s': s, 'o': o, 'out': out, 'n': f'({long} {row} {size} (length $s$ / {size}) $s$)', 'sound': f'(sym (@{call} .ensures) ∙ @enum-told .given .1)',
+         'w': f'(length $o$) ({"listCheck" if size == 3 else "bytesCheck"} $s$) $out$'}
+    opened = 'writeOf writtenBy' if size == 3 else 'readOf readBy'
+    written = 'put-records' if size == 3 else 'put-words'
+    return {
+        'returns': (opened, 'let w = stored-short $w$ $sound$ (omega (arith, $n$, @if1 .taken)) in (ap Refused (@refusal-at .ensures) ∙ w .0, ap (sets $o$ 0) (w .1))'),
+        f'{written}-requires': f'({whole} $s$ $sound$ .0, omega (arith, $n$, @if1 .left))',
+        'returns-2': (opened, f'let w = stored-faulty $w$ (@refusal .given .0 .0) (sym (@{call} .ensures) ∙ @refusal .given .1) in (w .0, ap (sets $o$ 0) (w .1))'),
+        'returns-3': (opened, f'let w = stored-done $w$ $sound$ (omega (arith, $n$, @if1 .left)) in (ap Done (sym $n$) ∙ w .0, @{written} .ensures ∙ ap (sets $o$ 0) (w .1))')}, m
+
+
+answers, macros = stored('check-list', 'recordsOf', 'listRows', 'wordRow', 3, 'list-sound', 'length-records')
+fill('write', answers, macros=macros)
+answers, macros = stored('check-bytes', 'tokensOf', 'storedRows', 'byteRow', 11, 'bytes-sound', 'length-tokens')
+fill('read', answers, macros=macros)

@@ -2,11 +2,11 @@
 // Each answers the first refusal and then writes nothing; later bytes or words keep their content.
 mod check;
 mod records;
+
 ghost use mathlib.Core.Path.{_≡_};
 ghost use lib.Seq.{sets};
 ghost use lib.ListN.{length};
 ghost use Rattle.storage.specs.Storage.{readBy, readOf, writeOf, writtenBy};
-
 use check::Checked;
 use token::Refusal;
 
@@ -29,7 +29,9 @@ pub fn write(list: &[u32], out: &mut [u8]) -> Stored
                 return Stored::Refused { refusal };
             }
             records::put_records(list, out);
-            Stored::Done { count: records * 11 }
+            Stored::Done {
+                count: records * 11,
+            }
         }
     }
 }

@@ -1,4 +1,23 @@
 -- Demand 3, `store-round`: what was written is read back, and what was read is written back, exactly. Assumes nothing.
+use Prim.Native.Nat.{ℕ, zero, suc, _+_, _*_, _/_, _%_, _≤_, _<_}
+use mathlib.Core.Path.{_≡_, refl, sym, ap, _∙_, subst}
+use mathlib.Core.List.{List, [], _∷_, _++_}
+use mathlib.Core.Bool.{Bool, true, false}
+use native.Mathlib.Omega.{arith}
+use lib.Dec.{ltb, eqb}
+use lib.Seq.{drop-cons, getD-drop}
+use lib.ListN.{drop, getD, length, length-drop}
+use borrow.Author.Tests.{eqb-true}
+use Rattle.laws.proofs.Cases.{both-inv, never, within-inv}
+use Rattle.laws.specs.Bools.{both, pick, same, within}
+use Rattle.storage.proofs.Puts.{length-records, length-tokens, recordIn, stored-done}
+use Rattle.storage.proofs.Rows.{bytes-checked, bytes-sound, list-checked, list-sound}
+use Rattle.storage.specs.Storage.{Below, Row, andThen, byteRow, bytesCheck, bytesOf, listCheck, listRows, readBy, readOf, recordCheck, recordsOf, refusalAt, rowCheck, rowsCheck, rowsOf, storedIn, storedRows, tokenOf, tokensOf, unlessRefused, wordOf, wordRow, writeOf, writtenBy}
+use Rattle.storage.specs.declared.Stored.{Stored}
+use Rattle.storage.specs.declared.Stored.the-variants.{Done}
+use Rattle.storage.specs.declared.check.Checked.{Checked}
+use Rattle.storage.specs.declared.check.Checked.the-variants.{Faulty, Sound}
+use Rattle.token.specs.declared.read.Refusal.{Refusal}
 
 -- a word and its bytes
 pub word-bytes : (w : ℕ) → w < 4294967296 → wordOf (w % 256) (w / 256 % 256) (w / 65536 % 256) (w / 16777216 % 256) ≡ w
@@ -15,10 +34,13 @@ word-bytes w h =
 pub bytes-word : (a b c d : ℕ) → a < 256 → b < 256 → c < 256 → d < 256 → bytesOf (wordOf a b c d) ≡ a ∷ b ∷ c ∷ d ∷ []
 bytes-word a b c d ha hb hc hd =
     let w = wordOf a b c d in
+    let q₁ : w / 256 ≡ b + c * 256 + d * 65536 = omega arith in
+    let q₂ : w / 65536 ≡ c + d * 256 = omega arith in
+    let q₃ : w / 16777216 ≡ d = omega arith in
     let e₁ : w % 256 ≡ a = omega arith in
-    let e₂ : w / 256 % 256 ≡ b = omega arith in
-    let e₃ : w / 65536 % 256 ≡ c = omega arith in
-    let e₄ : w / 16777216 % 256 ≡ d = omega arith in
+    let e₂ : w / 256 % 256 ≡ b = ap (λ (k : ℕ). k % 256) q₁ ∙ omega arith in
+    let e₃ : w / 65536 % 256 ≡ c = ap (λ (k : ℕ). k % 256) q₂ ∙ omega arith in
+    let e₄ : w / 16777216 % 256 ≡ d = ap (λ (k : ℕ). k % 256) q₃ ∙ omega arith in
     λ i. e₁ i ∷ e₂ i ∷ e₃ i ∷ e₄ i ∷ []
 
 -- what a sound check says
@@ -157,9 +179,10 @@ unfolding writeOf writtenBy readOf readBy
 store-round l room room′ count b h f =
     let d = done-inv room (listCheck l) (recordsOf (listRows l)) count h in
     let r = list-round l b (d .0) in
-    let s = stored-done room′ (bytesCheck (recordsOf (listRows l))) (tokensOf (storedRows (recordsOf (listRows l)))) (r .0) (subst (λ (x : List ℕ). length x ≤ room′) (sym (r .1)) f) in
-    (ap (λ (x : List ℕ). storedIn room′ (bytesCheck x) (tokensOf (storedRows x))) (d .1) ∙ sym (s .0) ∙ ap (λ (x : List ℕ). Done (length x)) (r .1),
-    ap (λ (x : List ℕ). unlessRefused (storedIn room′ (bytesCheck x) (tokensOf (storedRows x))) (tokensOf (storedRows x))) (d .1) ∙ sym (s .1) ∙ r .1)
+    let s = stored-done room′ (bytesCheck (recordsOf (listRows l))) (tokensOf (storedRows (recordsOf (listRows l)))) (r .0) (subst (λ (x : List ℕ). length x ≤ room′) (sym (r .1)) f) in (
+      ap (λ (x : List ℕ). storedIn room′ (bytesCheck x) (tokensOf (storedRows x))) (d .1) ∙ sym (s .0) ∙ ap (λ (x : List ℕ). Done (length x)) (r .1),
+      ap (λ (x : List ℕ). unlessRefused (storedIn room′ (bytesCheck x) (tokensOf (storedRows x))) (tokensOf (storedRows x))) (d .1) ∙ sym (s .1) ∙ r .1,
+    )
 
 -- and bytes that were read are written back, byte for byte
 pub store-round-bytes : (s : List ℕ) (room room′ count : ℕ) → Below 256 s → readOf s room ≡ Done count → length s ≤ room′
@@ -168,6 +191,7 @@ unfolding writeOf writtenBy readOf readBy
 store-round-bytes s room room′ count b h f =
     let d = done-inv room (bytesCheck s) (tokensOf (storedRows s)) count h in
     let r = bytes-round s b (d .0) in
-    let w = stored-done room′ (listCheck (tokensOf (storedRows s))) (recordsOf (listRows (tokensOf (storedRows s)))) (r .0) (subst (λ (x : List ℕ). length x ≤ room′) (sym (r .1)) f) in
-    (ap (λ (x : List ℕ). storedIn room′ (listCheck x) (recordsOf (listRows x))) (d .1) ∙ sym (w .0) ∙ ap (λ (x : List ℕ). Done (length x)) (r .1),
-    ap (λ (x : List ℕ). unlessRefused (storedIn room′ (listCheck x) (recordsOf (listRows x))) (recordsOf (listRows x))) (d .1) ∙ sym (w .1) ∙ r .1)
+    let w = stored-done room′ (listCheck (tokensOf (storedRows s))) (recordsOf (listRows (tokensOf (storedRows s)))) (r .0) (subst (λ (x : List ℕ). length x ≤ room′) (sym (r .1)) f) in (
+      ap (λ (x : List ℕ). storedIn room′ (listCheck x) (recordsOf (listRows x))) (d .1) ∙ sym (w .0) ∙ ap (λ (x : List ℕ). Done (length x)) (r .1),
+      ap (λ (x : List ℕ). unlessRefused (storedIn room′ (listCheck x) (recordsOf (listRows x))) (recordsOf (listRows x))) (d .1) ∙ sym (w .1) ∙ r .1,
+    )
