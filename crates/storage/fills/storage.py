@@ -58,10 +58,10 @@ fill('records/put_records', {
     'same-length': '@loop .inv .same', 'returns': 'writes-end $w$ (omega (arith, @loop-test .left))'},
     macros=P, head='The invariant: what is left, written behind what is stored, gives the whole. Assumes nothing.')
 Q = {'s': '(@Start .args .bytes .now)', 'from': '(@loop .from)', 'at': '(@loop .at)', 'l': '(left-11 (length $s$) $from$ (@loop-test .taken) (@loop .inv .whole))',
-     'y': 'tokensOf tokenOf 3 tokens-layout byteRow 11', 'w': '$y$ $s$ (@Start .args .out .now) (@loop .out) $from$ $at$ (@loop .inv)'}
+     'y': 'listWords tokenWords 3 tokens-layout byteRow 11', 'w': '$y$ $s$ (@Start .args .out .now) (@loop .out) $from$ $at$ (@loop .inv)'}
 wide_room = f'simp length-set ({room})'
 fill('records/put_words', {
-    'Inv-loop': 'Writes tokensOf byteRow 11 bytes out₀ out from at', 'μ-loop': 'length bytes - from',
+    'Inv-loop': 'Writes listWords byteRow 11 bytes out₀ out from at', 'μ-loop': 'length bytes - from',
     'loop-holds': 'writes-first $y$ _ _ (@Start .pre .0) (@Start .pre .1)',
     'add-wide': near, 'shared-slice-read-wide': near, 'mul-out': room, 'slice-write-out': room, 'add-word-at': near, 'word-at-requires': near,
     'add-out': room, 'mul-out-2': room, 'slice-write-out-2': wide_room, 'add-word-at-2': near, 'word-at-requires-2': near,
@@ -86,5 +86,5 @@ def stored(call, put, rows, row, size, whole, long):
 
 answers, macros = stored('check-list', 'recordsOf', 'listRows', 'wordRow', 3, 'list-sound', 'length-records')
 fill('write', answers, macros=macros)
-answers, macros = stored('check-bytes', 'tokensOf', 'storedRows', 'byteRow', 11, 'bytes-sound', 'length-tokens')
+answers, macros = stored('check-bytes', 'listWords', 'storedRows', 'byteRow', 11, 'bytes-sound', 'length-tokens')
 fill('read', answers, macros=macros)

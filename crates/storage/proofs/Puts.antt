@@ -8,11 +8,11 @@ use lib.ListN.{drop, getD, length, length-append}
 use borrow.Author.Tests.{le-leb, lt-leb}
 use Rattle.laws.specs.Bools.{same}
 use Rattle.storage.proofs.Rows.{Left, at-drop, first-drop, rows-end, rows-more, rows-whole, rowsFrom, sets-append}
-use Rattle.storage.specs.Storage.{Row, recordOf, recordsOf, refusalAt, rowsOf, storedIn, tokenOf, tokensOf, unlessRefused, wordRow}
+use Rattle.storage.specs.Storage.{Row, listWords, recordOf, recordsOf, refusalAt, rowsOf, storedIn, tokenWords, unlessRefused, wordRow}
 use Rattle.storage.specs.declared.Stored.{Stored}
 use Rattle.storage.specs.declared.Stored.the-variants.{Done, Refused}
 use Rattle.storage.specs.declared.check.Checked.{Checked}
-use Rattle.storage.specs.declared.check.Checked.the-variants.{Faulty, Sound}
+use Rattle.storage.specs.declared.check.Checked.the-variants.{Faulty, Good}
 use Rattle.token.specs.declared.read.Refusal.{Refusal}
 
 abbrev pub recordIn : Row → List ℕ
@@ -28,8 +28,8 @@ pub records-layout : Layout recordsOf recordIn 11
 unfolding recordsOf
 records-layout = record { nil = refl; cons = λ r rs. refl; long = λ r. refl }
 
-pub tokens-layout : Layout tokensOf tokenOf 3
-unfolding tokensOf
+pub tokens-layout : Layout listWords tokenWords 3
+unfolding listWords
 tokens-layout = record { nil = refl; cons = λ r rs. refl; long = λ r. refl }
 
 pub length-records : (row : List ℕ → Row) (size n : ℕ) (s : List ℕ) → length (recordsOf (rowsOf row size n s)) ≡ n * 11
@@ -37,8 +37,8 @@ unfolding recordsOf rowsOf
 length-records row size zero s = refl
 length-records row size (suc n) s = let h = length-records row size n (drop size s) in omega arith
 
-pub length-tokens : (row : List ℕ → Row) (size n : ℕ) (s : List ℕ) → length (tokensOf (rowsOf row size n s)) ≡ n * 3
-unfolding tokensOf rowsOf
+pub length-tokens : (row : List ℕ → Row) (size n : ℕ) (s : List ℕ) → length (listWords (rowsOf row size n s)) ≡ n * 3
+unfolding listWords rowsOf
 length-tokens row size zero s = refl
 length-tokens row size (suc n) s = let h = length-tokens row size n (drop size s) in omega arith
 
@@ -105,8 +105,8 @@ module _ (room : ℕ) (c : Checked) (out : List ℕ) where
   pub stored-faulty : (r : Refusal) → c ≡ Faulty r → Result room c out (Refused r) []
   stored-faulty r e = (rw e, rw e)
 
-  pub stored-short : c ≡ Sound → room < length out → Result room c out (Refused (refusalAt 3 0)) []
+  pub stored-short : c ≡ Good → room < length out → Result room c out (Refused (refusalAt 3 0)) []
   stored-short e h = (rw (e, lt-leb (length out) room h), rw (e, lt-leb (length out) room h))
 
-  pub stored-done : c ≡ Sound → length out ≤ room → Result room c out (Done (length out)) out
+  pub stored-done : c ≡ Good → length out ≤ room → Result room c out (Done (length out)) out
   stored-done e h = (rw (e, le-leb (length out) room h), rw (e, le-leb (length out) room h))

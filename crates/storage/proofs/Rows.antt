@@ -7,9 +7,9 @@ use lib.Seq.{drop-drop, getD-drop, sets}
 use lib.ListN.{drop, getD, length, set}
 use borrow.Author.Tests.{eq-eqb, le-ltb, lt-ltb, ne-eqb}
 use Rattle.laws.proofs.Cases.{both-false, never, split-eq, within-high, within-low, within-yes}
-use Rattle.storage.specs.Storage.{Row, andThen, byteRow, bytesCheck, bytesOf, listCheck, listRows, recordCheck, recordOf, refusalAt, rowCheck, rowsCheck, rowsOf, storedRows, tokenOf, wordAt, wordRow}
+use Rattle.storage.specs.Storage.{Row, andThen, byteRow, bytesCheck, listCheck, listRows, recordCheck, recordOf, refusalAt, rowCheck, rowsCheck, rowsOf, storedRows, tokenWords, u32At, u32Bytes, wordRow}
 use Rattle.storage.specs.declared.check.Checked.{Checked}
-use Rattle.storage.specs.declared.check.Checked.the-variants.{Faulty, Sound}
+use Rattle.storage.specs.declared.check.Checked.the-variants.{Faulty, Good}
 use Rattle.token.specs.declared.read.Refusal.{Refusal}
 
 -- the rows from the place `at` on
@@ -54,7 +54,7 @@ walk-first row size s h =
     record { answers = ap (rowsCheck 0 0) (sym (rows-whole row size s)); whole = ap (λ (k : ℕ). k % size) z ∙ h; inside = omega arith; few = omega arith }
 
 module _ (row : List ℕ → Row) (size : ℕ) (s : List ℕ) (at n last : ℕ) (w : Walk row size s at n last) where
-  pub walk-end : (length s - at) / size ≡ 0 → Sound ≡ rowsCheck 0 0 (rowsOf row size (length s / size) s)
+  pub walk-end : (length s - at) / size ≡ 0 → Good ≡ rowsCheck 0 0 (rowsOf row size (length s / size) s)
   unfolding rowsCheck
   walk-end h = sym (ap (rowsCheck n last) (rows-end row size s at h)) ∙ w .answers
 
@@ -68,7 +68,7 @@ module _ (row : List ℕ → Row) (size : ℕ) (s : List ℕ) (at n last : ℕ) 
     pub walk-stop : (r : Refusal) → x ≡ Faulty r → x ≡ rowsCheck 0 0 (rowsOf row size (length s / size) s)
     walk-stop r f = f ∙ ap (λ (y : Checked). andThen y (rowsCheck (n + 1) (row (drop at s) .end) (rowsFrom row size s (at + size)))) (sym f) ∙ walk-one
 
-    pub walk-more : (last′ : ℕ) → x ≡ Sound → last′ ≡ row (drop at s) .end → 0 < size → Walk row size s (at + size) (n + 1) last′
+    pub walk-more : (last′ : ℕ) → x ≡ Good → last′ ≡ row (drop at s) .end → 0 < size → Walk row size s (at + size) (n + 1) last′
     walk-more last′ f l p = record {
       answers =
           ap (λ (k : ℕ). rowsCheck (n + 1) k (rowsFrom row size s (at + size))) l
@@ -96,10 +96,10 @@ unfolding bytesCheck
 bytes-checked s h = rw (eq-eqb (length s % 11) 0 h)
 
 -- what is accepted is whole, and sound row by row
-pub list-sound : (l : List ℕ) → listCheck l ≡ Sound → (length l % 3 ≡ 0) × (rowsCheck 0 0 (listRows l) ≡ Sound)
+pub list-sound : (l : List ℕ) → listCheck l ≡ Good → (length l % 3 ≡ 0) × (rowsCheck 0 0 (listRows l) ≡ Good)
 list-sound l h = split-eq (length l % 3) 0 (λ e. (e, list-checked l e ∙ h)) (λ e. never (let z = list-refused l e in cc))
 
-pub bytes-sound : (s : List ℕ) → bytesCheck s ≡ Sound → (length s % 11 ≡ 0) × (rowsCheck 0 0 (storedRows s) ≡ Sound)
+pub bytes-sound : (s : List ℕ) → bytesCheck s ≡ Good → (length s % 11 ≡ 0) × (rowsCheck 0 0 (storedRows s) ≡ Good)
 bytes-sound s h = split-eq (length s % 11) 0 (λ e. (e, bytes-checked s e ∙ h)) (λ e. never (let z = bytes-refused s e in cc))
 
 -- what the rows hold at a place
@@ -109,7 +109,7 @@ at-drop s p k = getD-drop p s k 0
 pub first-drop : (s : List ℕ) (p : ℕ) → getD (drop p s) 0 0 ≡ getD s p 0
 first-drop s p = let z : p + 0 ≡ p = omega arith in at-drop s p 0 ∙ ap (λ (k : ℕ). getD s k 0) z
 
-pub word-drop : (s : List ℕ) (p k : ℕ) → wordAt (drop p s) k ≡ wordAt s (p + k)
+pub word-drop : (s : List ℕ) (p k : ℕ) → u32At (drop p s) k ≡ u32At s (p + k)
 word-drop s p k =
     let e₁ : p + (k + 1) ≡ p + k + 1 = omega arith in
     let e₂ : p + (k + 2) ≡ p + k + 2 = omega arith in
@@ -130,7 +130,7 @@ module _ (s : List ℕ) (p n last : ℕ) where
   bytes-unmarked-2 h = rw (at-drop s p 1, ne-eqb (getD s (p + 1) 0) 0x4b h, both-false)
 
   pub bytes-row : getD s p 0 ≡ 0x54 → getD s (p + 1) 0 ≡ 0x4b
-      → recordCheck n last (getD s (p + 2) 0) (wordAt s (p + 3)) (wordAt s (p + 7)) ≡ rowCheck n last (byteRow (drop p s))
+      → recordCheck n last (getD s (p + 2) 0) (u32At s (p + 3)) (u32At s (p + 7)) ≡ rowCheck n last (byteRow (drop p s))
   bytes-row h k = rw (first-drop s p, at-drop s p 1, at-drop s p 2, word-drop s p 3, word-drop s p 7, eq-eqb _ _ h, eq-eqb _ _ k)
 
 -- a record by the tests of the code
@@ -152,7 +152,7 @@ module _ (n last kind start end : ℕ) where
     unfolding recordCheck
     record-empty g = rw (within-yes 1 66 kind l h, le-ltb start end g, both-false)
 
-    pub record-sound : start ≡ last → start < end → Sound ≡ recordCheck n last kind start end
+    pub record-sound : start ≡ last → start < end → Good ≡ recordCheck n last kind start end
     unfolding recordCheck
     record-sound g e = rw (within-yes 1 66 kind l h, eq-eqb start last g, lt-ltb start end e)
 
@@ -162,7 +162,7 @@ sets-append out [] w i j e = let z : j ≡ i = omega arith in ap (λ (k : ℕ). 
 sets-append out (a ∷ v) w i j e = sets-append (set out i a) v w (suc i) j (omega arith)
 
 pub word-stores : (out : List ℕ) (p w : ℕ) {a b c d : ℕ} → a ≡ w % 256 → b ≡ w / 256 % 256 → c ≡ w / 65536 % 256 → d ≡ w / 16777216 % 256
-    → set (set (set (set out p a) (p + 1) b) (p + 2) c) (p + 3) d ≡ sets out p (bytesOf w)
+    → set (set (set (set out p a) (p + 1) b) (p + 2) c) (p + 3) d ≡ sets out p (u32Bytes w)
 word-stores out p w ea eb ec ed =
     let e₁ : p + 1 ≡ suc p = omega arith in
     let e₂ : p + 2 ≡ suc (suc p) = omega arith in
@@ -170,19 +170,28 @@ word-stores out p w ea eb ec ed =
     rw (ea, eb, ec, ed, e₁, e₂, e₃)
 
 pub record-stores : (out : List ℕ) (p kind start end : ℕ) {a : ℕ} (out₁ out₂ : List ℕ) → a ≡ kind % 256
-    → out₁ ≡ sets (set (set (set out p 0x54) (p + 1) 0x4b) (p + 2) a) (p + 3) (bytesOf start) → out₂ ≡ sets out₁ (p + 7) (bytesOf end)
+    → out₁ ≡ sets (set (set (set out p 0x54) (p + 1) 0x4b) (p + 2) a) (p + 3) (u32Bytes start) → out₂ ≡ sets out₁ (p + 7) (u32Bytes end)
     → out₂ ≡ sets out p (recordOf kind start end)
 record-stores out p kind start end out₁ out₂ ea h k =
     let e₁ : p + 1 ≡ suc p = omega arith in
     let e₂ : p + 2 ≡ suc (suc p) = omega arith in
     let e₃ : p + 3 ≡ suc (suc (suc p)) = omega arith in
-    k ∙ ap (λ (l : List ℕ). sets l (p + 7) (bytesOf end)) h
-    ∙ sets-append (set (set (set out p 0x54) (p + 1) 0x4b) (p + 2) _) (bytesOf start) (bytesOf end) (p + 3) (p + 7) (omega arith)
+    k ∙ ap (λ (l : List ℕ). sets l (p + 7) (u32Bytes end)) h
+    ∙ sets-append (set (set (set out p 0x54) (p + 1) 0x4b) (p + 2) _) (u32Bytes start) (u32Bytes end) (p + 3) (p + 7) (omega arith)
     ∙ rw (ea, e₁, e₂, e₃)
 
-pub token-stores : (s out : List ℕ) (p q : ℕ) {a b c : ℕ} → a ≡ getD s (q + 2) 0 → b ≡ wordAt s (q + 3) → c ≡ wordAt s (q + 7)
-    → set (set (set out p a) (p + 1) b) (p + 2) c ≡ sets out p (tokenOf (byteRow (drop q s)))
+pub token-stores : (s out : List ℕ) (p q : ℕ) {a b c : ℕ} → a ≡ getD s (q + 2) 0 → b ≡ u32At s (q + 3) → c ≡ u32At s (q + 7)
+    → set (set (set out p a) (p + 1) b) (p + 2) c ≡ sets out p (tokenWords (byteRow (drop q s)))
 token-stores s out p q ea eb ec =
     let e₁ : p + 1 ≡ suc p = omega arith in
     let e₂ : p + 2 ≡ suc (suc p) = omega arith in
     rw (ea, eb, ec, at-drop s q 2, word-drop s q 3, word-drop s q 7, e₁, e₂)
+
+-- one more token in front of an accepted list
+pub list-cons : (n last kind start end : ℕ) (l : List ℕ) → 1 ≤ kind → kind ≤ 66 → start ≡ last → start < end
+    → rowsCheck (n + 1) end (listRows l) ≡ Good → rowsCheck n last (listRows (kind ∷ start ∷ end ∷ l)) ≡ Good
+unfolding rowsOf rowsCheck
+list-cons n last kind start end l low high e past h =
+    let m : suc (suc (suc (length l))) / 3 ≡ suc (length l / 3) = omega arith in
+    ap (λ (k : ℕ). rowsCheck n last (rowsOf wordRow 3 k (kind ∷ start ∷ end ∷ l))) m
+    ∙ ap (λ (c : Checked). andThen c (rowsCheck (n + 1) end (listRows l))) (sym (record-sound n last kind start end low high e past)) ∙ h

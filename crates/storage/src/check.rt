@@ -12,7 +12,7 @@ ghost use Rattle.storage.specs.Storage.{bytesCheck, listCheck, recordChe
 ghost use Rattle.storage.specs.declared.check.Checked.the-variants.{Faulty};
 
 pub enum Checked {
-    Sound,
+    Good,
     Faulty { refusal: Refusal },
 }
 
@@ -50,7 +50,7 @@ fn check_record(n: usize, last: u32, kind: u32, start: u32, end: u32) -> Checked
     if end <= start {
         return faulty(GAP, n);
     }
-    Checked::Sound
+    Checked::Good
 }
 
 pub fn check_list(list: &[u32]) -> Checked
@@ -65,14 +65,14 @@ pub fn check_list(list: &[u32]) -> Checked
     while at < list.len() {
         let end = list[at + 2];
         let checked = check_record(n, last, list[at], list[at + 1], end);
-        let Checked::Sound = checked else {
+        let Checked::Good = checked else {
             return checked;
         };
         at = at + 3;
         n = n + 1;
         last = end;
     }
-    Checked::Sound
+    Checked::Good
 }
 
 pub fn check_bytes(bytes: &[u8]) -> Checked
@@ -94,12 +94,12 @@ pub fn check_bytes(bytes: &[u8]) -> Checked
         let start = word_at(bytes, at + 3);
         let end = word_at(bytes, at + 7);
         let checked = check_record(n, last, wide(bytes[at + 2]), start, end);
-        let Checked::Sound = checked else {
+        let Checked::Good = checked else {
             return checked;
         };
         at = at + 11;
         n = n + 1;
         last = end;
     }
-    Checked::Sound
+    Checked::Good
 }

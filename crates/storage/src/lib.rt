@@ -22,7 +22,7 @@ pub fn write(list: &[u32], out: &mut [u8]) -> Stored
 {
     match check::check_list(list) {
         Checked::Faulty { refusal } => Stored::Refused { refusal },
-        Checked::Sound => {
+        Checked::Good => {
             let records = list.len() / 3;
             if out.len() / 11 < records {
                 let refusal = check::refusal_at(token::refusal::NO_ROOM, 0);
@@ -42,7 +42,7 @@ pub fn read(bytes: &[u8], out: &mut [u32]) -> Stored
 {
     match check::check_bytes(bytes) {
         Checked::Faulty { refusal } => Stored::Refused { refusal },
-        Checked::Sound => {
+        Checked::Good => {
             let records = bytes.len() / 11;
             if out.len() / 3 < records {
                 let refusal = check::refusal_at(token::refusal::NO_ROOM, 0);

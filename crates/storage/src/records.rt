@@ -3,7 +3,7 @@ ghost use Prim.Native.Nat.{_+_, _%_, _≤_};
 ghost use mathlib.Core.Path.{_≡_};
 ghost use lib.Seq.{sets};
 ghost use lib.ListN.{length};
-ghost use Rattle.storage.specs.Storage.{bytesOf, listRows, recordOf, recordsOf, storedRows, tokensOf, wordAt, wordOf};
+ghost use Rattle.storage.specs.Storage.{listRows, listWords, recordOf, recordsOf, storedRows, u32At, u32Bytes, u32Of};
 
 pub fn wide(byte: u8) -> u32
     ensures { λ r. ⌜ r ≡ byte ⌝ }
@@ -13,14 +13,14 @@ pub fn wide(byte: u8) -> u32
 
 // A word of four bytes, the lowest first.
 fn word_of(a: u8, b: u8, c: u8, d: u8) -> u32
-    ensures { λ r. ⌜ r ≡ wordOf a b c d ⌝ }
+    ensures { λ r. ⌜ r ≡ u32Of a b c d ⌝ }
 {
     a as u32 + b as u32 * 256 + c as u32 * 65536 + d as u32 * 16777216
 }
 
 pub fn word_at(bytes: &[u8], at: usize) -> u32
     requires { ⌜ at + 4 ≤ length (now bytes) ⌝ }
-    ensures { λ r. ⌜ r ≡ wordAt (now (bytes .entry)) at ⌝ }
+    ensures { λ r. ⌜ r ≡ u32At (now (bytes .entry)) at ⌝ }
 {
     word_of(bytes[at], bytes[at + 1], bytes[at + 2], bytes[at + 3])
 }
@@ -33,7 +33,7 @@ fn low_byte(w: u32) -> u8
 
 fn put_word(out: &mut [u8], at: usize, w: u32)
     requires { ⌜ at + 4 ≤ length (now out) ⌝ }
-    ensures { λ _. ⌜ now (out .exit) ≡ sets (now (out .entry)) at (bytesOf w) ⌝ }
+    ensures { λ _. ⌜ now (out .exit) ≡ sets (now (out .entry)) at (u32Bytes w) ⌝ }
 {
     out[at] = low_byte(w);
     out[at + 1] = low_byte(w / 256);
@@ -66,8 +66,8 @@ pub fn put_records(list: &[u32], out: &mut [u8])
 }
 
 pub fn put_words(bytes: &[u8], out: &mut [u32])
-    requires { ⌜ (length (now bytes) % 11 ≡ 0) × (length (tokensOf (storedRows (now bytes))) ≤ length (now out)) ⌝ }
-    ensures { λ _. ⌜ now (out .exit) ≡ sets (now (out .entry)) 0 (tokensOf (storedRows (now (bytes .entry)))) ⌝ }
+    requires { ⌜ (length (now bytes) % 11 ≡ 0) × (length (listWords (storedRows (now bytes))) ≤ length (now out)) ⌝ }
+    ensures { λ _. ⌜ now (out .exit) ≡ sets (now (out .entry)) 0 (listWords (storedRows (now (bytes .entry)))) ⌝ }
 {
     let mut from: usize = 0;
     let mut at: usize = 0;
