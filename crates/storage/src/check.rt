@@ -1,0 +1,105 @@
+// The first refusal of a token list or of stored bytes, by record, proved equal to the definition.
+use crate::records::wide;
+use crate::records::word_at;
+use token::Refusal;
+use token::Span;
+use token::refusal::BAD_KIND;
+use token::refusal::BAD_LENGTH;
+use token::refusal::BAD_MARK;
+use token::refusal::GAP;
+ghost use mathlib.Core.Path.{_≡_};
+ghost use Rattle.storage.specs.Storage.{bytesCheck, listCheck, recordCheck, refusalAt};
+ghost use Rattle.storage.specs.declared.check.Checked.the-variants.{Faulty};
+
+pub enum Checked {
+    Good,
+    Faulty { refusal: Refusal },
+}
+
+// A refusal that names the record n.
+pub fn refusal_at(number: u32, n: usize) -> Refusal
+    ensures { λ r. ⌜ r ≡ refusalAt number n ⌝ }
+{
+    Refusal {
+        number,
+        span: Span { start: n, end: n },
+        reached: n,
+    }
+}
+
+fn faulty(number: u32, n: usize) -> Checked
+    ensures { λ r. ⌜ r ≡ Faulty (refusalAt number n) ⌝ }
+{
+    let refusal = refusal_at(number, n);
+    Checked::Faulty { refusal }
+}
+
+// The record n, where the one before ended at `last`.
+fn check_record(n: usize, last: u32, kind: u32, start: u32, end: u32) -> Checked
+    ensures { λ r. ⌜ r ≡ recordCheck n last kind start end ⌝ }
+{
+    if kind < 1 {
+        return faulty(BAD_KIND, n);
+    }
+    if 66 < kind {
+        return faulty(BAD_KIND, n);
+    }
+    if start != last {
+        return faulty(GAP, n);
+    }
+    if end <= start {
+        return faulty(GAP, n);
+    }
+    Checked::Good
+}
+
+pub fn check_list(list: &[u32]) -> Checked
+    ensures { λ r. ⌜ r ≡ listCheck (now (list .entry)) ⌝ }
+{
+    if list.len() % 3 != 0 {
+        return faulty(BAD_LENGTH, 0);
+    }
+    let mut at: usize = 0;
+    let mut n: usize = 0;
+    let mut last: u32 = 0;
+    while at < list.len() {
+        let end = list[at + 2];
+        let checked = check_record(n, last, list[at], list[at + 1], end);
+        let Checked::Good = checked else {
+            return checked;
+        };
+        at = at + 3;
+        n = n + 1;
+        last = end;
+    }
+    Checked::Good
+}
+
+pub fn check_bytes(bytes: &[u8]) -> Checked
+    ensures { λ r. ⌜ r ≡ bytesCheck (now (bytes .entry)) ⌝ }
+{
+    if bytes.len() % 11 != 0 {
+        return faulty(BAD_LENGTH, 0);
+    }
+    let mut at: usize = 0;
+    let mut n: usize = 0;
+    let mut last: u32 = 0;
+    while at < bytes.len() {
+        if bytes[at] != 0x54 {
+            return faulty(BAD_MARK, n);
+        }
+        if bytes[at + 1] != 0x4b {
+            return faulty(BAD_MARK, n);
+        }
+        let start = word_at(bytes, at + 3);
+        let end = word_at(bytes, at + 7);
+        let checked = check_record(n, last, wide(bytes[at + 2]), start, end);
+        let Checked::Good = checked else {
+            return checked;
+        };
+        at = at + 11;
+        n = n + 1;
+        last = end;
+    }
+    Checked::Good
+}

@@ -1,0 +1,54 @@
+-- The words of tokens that lie end to end from 0 are a token list that the writer accepts. Assumes nothing.
+use Prim.Native.Nat.{ℕ, _+_, _-_, _*_, _/_, _%_, _≤_}
+use mathlib.Core.Path.{_≡_, refl, sym, ap, _∙_}
+use mathlib.Core.List.{List, []}
+use native.Mathlib.Omega.{arith}
+use lib.Dec.{ltb}
+use lib.ListN.{length}
+use borrow.Author.Tests.{leb-true}
+use Rattle.laws.proofs.Cases.{split}
+use Rattle.listing.specs.Listing.{wordsOf}
+use Rattle.numbers.proofs.Inverse.{number-range}
+use Rattle.numbers.specs.Kinds.{numberOf}
+use Rattle.storage.proofs.Puts.{length-records, stored-done}
+use Rattle.storage.proofs.Rows.{list-checked, list-cons}
+use Rattle.storage.specs.Storage.{listCheck, listRows, recordsOf, rowsCheck, rowsOf, wordRow, writeOf}
+use Rattle.storage.specs.declared.Stored.the-variants.{Done}
+use Rattle.storage.specs.declared.check.Checked.the-variants.{Good}
+use Rattle.stored_listing.proofs.Inner.{AllInner}
+use Rattle.tokens.specs.Tokens.{Covers, Tokens, fin, halt, more}
+
+-- no refusal but of the room
+abbrev pub Accepted : List ℕ → Type 0
+Accepted l = listCheck l ≡ Good
+
+pub none-accepted : Accepted []
+unfolding listCheck rowsOf rowsCheck
+none-accepted = refl
+
+words-from : (ts : Tokens) (p e n room : ℕ) → Covers ts p e → AllInner ts → (length (wordsOf ts room) % 3 ≡ 0) × (rowsCheck n p (listRows (wordsOf ts room)) ≡ Good)
+unfolding Covers AllInner wordsOf rowsOf rowsCheck
+words-from fin p e n room c i = (refl, refl)
+words-from (halt r) p e n room c i = (refl, refl)
+words-from (more k ts) p e n room c i =
+    split (ltb room 3) (λ t. rw (t, wordsOf) (refl, refl))
+    (λ t.
+    let w = words-from ts (k .span .end) e (n + 1) (room - 3) (c .2) (i .1) in
+    let m = w .0 in
+    let start = c .0 in
+    let past = c .1 in
+    rw (t, wordsOf) (
+      omega arith,
+      list-cons n p (numberOf (k .kind)) (k .span .start) (k .span .end) (wordsOf ts (room - 3))
+          (number-range (k .kind) .0) (leb-true (numberOf (k .kind)) 66 (i .0)) start (omega arith) (w .1),
+    ))
+
+pub words-accepted : (ts : Tokens) (e room : ℕ) → Covers ts 0 e → AllInner ts → Accepted (wordsOf ts room)
+words-accepted ts e room c i = let w = words-from ts 0 e 0 room c i in sym (list-checked (wordsOf ts room) (w .0)) ∙ w .1
+
+-- 11 bytes of room for each three words
+pub accepted-written : (l : List ℕ) (room : ℕ) → Accepted l → length l / 3 * 11 ≤ room → writeOf l room ≡ Done (length l / 3 * 11)
+unfolding writeOf
+accepted-written l room h f =
+    let n = length-records wordRow 3 (length l / 3) l in
+    sym (stored-done room (listCheck l) (recordsOf (listRows l)) h (omega arith) .0) ∙ ap Done n
