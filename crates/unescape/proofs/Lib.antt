@@ -1,0 +1,5 @@
+pub mod Escapes
+pub mod Lands
+pub mod Items
+pub mod Stores
+pub mod Bodies
