@@ -52,7 +52,7 @@ module _ (form : Form) (v : ℕ) (cs : List ℕ) (p : ℕ) where
     unfolding itemOf
     item-plain k = rw (ne-eqb v 0x5c h, k)
 
-arrived : (form : Form) (cs : List ℕ) (t : ℕ) → bodyOf form t cs t ≡ bodyOf form 0 cs t
+pub arrived : (form : Form) (cs : List ℕ) (t : ℕ) → bodyOf form t cs t ≡ bodyOf form 0 cs t
 unfolding bodyOf
 arrived form [] t = refl
 arrived form (v ∷ cs) t = rw (le-ltb t t (omega arith), le-ltb t 0 (omega arith), bodyOf)
@@ -115,7 +115,7 @@ module _ (form : Form) (s : List ℕ) (p v n : ℕ) (t : Step s p v n) (e : Esca
   pub fits-here : (x m : ℕ) → e ≡ Item x m → Fits form p x m
   fits-here x m h = item-fits form p v (rest s n) x m (step-is-scalar s p v n t) (sym found ∙ h)
 
-by-ending {ℓ} : {X : Type ℓ} (e : Ending) → (e ≡ whole → X) → ((number start end : ℕ) → e ≡ fault number start end → X) → X
+pub by-ending {ℓ} : {X : Type ℓ} (e : Ending) → (e ≡ whole → X) → ((number start end : ℕ) → e ≡ fault number start end → X) → X
 by-ending whole f g = f refl
 by-ending (fault number start end) f g = g number start end refl
 
@@ -223,22 +223,39 @@ module _ (form : Form) (s out₀ out : List ℕ) (at n : ℕ) (i : Writing form 
             inside = omega (arith, next-room form s at v m t e q, ap placeOf h);
           }
 
--- the answer, of what was measured
+-- the answer, of how the items end
+module _ (form : Form) (s : List ℕ) (room : ℕ) where
+  pub read-fault : (number start end : ℕ) → bodyAt form s 0 .ending ≡ fault number start end → readOf form s room ≡ refuse number start end
+  unfolding readOf judge
+  read-fault number start end e = rw (e, judge)
+
+  pub read-whole : bodyAt form s 0 .ending ≡ whole → readOf form s room
+      ≡ pick (wrongCount form (length (bodyAt form s 0 .items))) (refuse 27 0 (length s))
+      (pick (ltb room (length (writtenOf form (bodyAt form s 0 .items)))) (refuse 26 0 (length s)) (wrote (writtenOf form (bodyAt form s 0 .items))))
+  unfolding readOf judge
+  read-whole e = rw (e, judge)
+
+-- .. and of what was measured
 module _ (form : Form) (s : List ℕ) (room : ℕ) (m : Measured) (q : m ≡ measuredOf form 0 0 (bodyAt form s 0)) where
   pub read-stopped : (number start end : ℕ) → m ≡ Stopped number start end → readOf form s room ≡ refuse number start end
-  unfolding measuredOf readOf judge
+  unfolding measuredOf
   read-stopped number start end h =
       by-ending (bodyAt form s 0 .ending)
       (λ e. never (let z = (rw (e, measuredOf) at q) in cc))
-      (λ a b c e. let z = (rw (e, measuredOf) at q) in let x : a ≡ number = cc in let y : b ≡ start = cc in let w : c ≡ end = cc in
-      rw (e, judge) (λ j. refuse (x j) (y j) (w j)))
+      (λ a b c e.
+      let z = (rw (e, measuredOf) at q) in
+      let x : a ≡ number = cc in
+      let y : b ≡ start = cc in
+      let w : c ≡ end = cc in
+      read-fault form s room a b c e ∙ (λ j. refuse (x j) (y j) (w j)))
 
   module _ (items count : ℕ) (h : m ≡ Whole items count) where
     whole-is : (bodyAt form s 0 .ending ≡ whole) × (items ≡ length (bodyAt form s 0 .items)) × (count ≡ length (writtenOf form (bodyAt form s 0 .items)))
     unfolding measuredOf
     whole-is =
         by-ending (bodyAt form s 0 .ending)
-        (λ e. let z = (rw (e, measuredOf) at q) in
+        (λ e.
+        let z = (rw (e, measuredOf) at q) in
         let x : items ≡ 0 + length (bodyAt form s 0 .items) = cc in
         let y : count ≡ 0 + length (writtenOf form (bodyAt form s 0 .items)) = cc in
         (e, omega arith, omega arith))
@@ -248,10 +265,9 @@ module _ (form : Form) (s : List ℕ) (room : ℕ) (m : Measured) (q : m ≡ mea
     whole-count = whole-is .2
 
     judged : readOf form s room ≡ pick (wrongCount form items) (refuse 27 0 (length s)) (pick (ltb room count) (refuse 26 0 (length s)) (wrote (writtenOf form (bodyAt form s 0 .items))))
-    unfolding readOf judge
     judged =
-        rw (whole-is .0, judge)
-        (ap₂ (λ (i c : ℕ). pick (wrongCount form i) (refuse 27 0 (length s)) (pick (ltb room c) (refuse 26 0 (length s)) (wrote (writtenOf form (bodyAt form s 0 .items))))) (sym (whole-is .1)) (sym (whole-is .2)))
+        read-whole form s room (whole-is .0)
+        ∙ ap₂ (λ (i c : ℕ). pick (wrongCount form i) (refuse 27 0 (length s)) (pick (ltb room c) (refuse 26 0 (length s)) (wrote (writtenOf form (bodyAt form s 0 .items))))) (sym (whole-is .1)) (sym (whole-is .2))
 
     pub read-wrong : wrongCount form items ≡ true → readOf form s room ≡ refuse 27 0 (length s)
     read-wrong w = judged ∙ rw w

@@ -3,3 +3,5 @@ pub mod Lands
 pub mod Items
 pub mod Stores
 pub mod Bodies
+pub mod Unescaped
+pub mod Examples
