@@ -1,0 +1,7 @@
+pub mod Escapes
+pub mod Lands
+pub mod Items
+pub mod Stores
+pub mod Bodies
+pub mod Unescaped
+pub mod Examples

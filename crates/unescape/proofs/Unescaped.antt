@@ -1,0 +1,282 @@
+-- What holds of every body: its bytes are well-formed text, one item for a char or a byte, no more bytes than the body has,
+-- and a body without escapes as it stands. Assumes nothing.
+use Prim.Native.Nat.{ℕ, _+_, _≤_}
+use mathlib.Core.Path.{_≡_, refl, sym, ap, ap₂, _∙_, subst}
+use mathlib.Core.List.{List, [], _∷_, _++_, append-nil}
+use mathlib.Core.Bool.{true, false}
+use mathlib.Core.Logic.{inl, inr}
+use native.Mathlib.Omega.{arith}
+use lib.Dec.{ltb, eqb}
+use lib.Seq.{sets, sets-eq}
+use lib.ListN.{drop, length, length-append}
+use borrow.Author.Tests.{eq-eqb, eqb-true, le-ltb, lt-ltb, ltb-false, not-false}
+use Rattle.encoding.proofs.Round.{all-whole, decode-scalar, whole-encode}
+use Rattle.encoding.proofs.Rows.{encode-1}
+use Rattle.encoding.specs.Encode.{AllScalar, encodeAll}
+use Rattle.laws.proofs.Cases.{never, split}
+use Rattle.laws.proofs.Determined.{determined}
+use Rattle.laws.specs.Bools.{same}
+use Rattle.text.proofs.Decode.{width-pos}
+use Rattle.text.proofs.Places.{sound-inv}
+use Rattle.text.specs.Source.{soundTo, sourceTest}
+use Rattle.text.specs.Utf8.{after, decode, rest, width}
+use Rattle.text.specs.declared.source.Tested.{Tested}
+use Rattle.text.specs.declared.source.Tested.the-variants.{IllFormed, Misplaced, Sound, TooLong}
+use Rattle.token.specs.declared.read.Refusal.{Refusal}
+use Rattle.unescape.proofs.Bodies.{arrived, bodyAt, by-ending, item-low, item-plain, read-fault, read-whole, source-ill, source-long, source-misplaced, source-sound}
+use Rattle.unescape.proofs.Items.{Fits, byte-bytes, item-fits, scalar-bytes}
+use Rattle.unescape.proofs.Lands.{Lands, here, item-lands, lands-le, pick-of, placeOf}
+use Rattle.unescape.specs.Bodies.{Body, Ending, Result, also, bodyOf, fault, isBytes, isSingle, itemBytes, itemOf, noMore, refuse, turnOf, unescapeOf, whole, writtenOf, wrongCount, wrote}
+use Rattle.unescape.specs.declared.body.Form.{Form}
+use Rattle.unescape.specs.declared.body.Unescaped.{Unescaped}
+use Rattle.unescape.specs.declared.body.Unescaped.the-variants.{Refused, Wrote}
+use Rattle.unescape.specs.declared.escape.Escape.{Escape}
+use Rattle.unescape.specs.declared.escape.Escape.the-variants.{Bad, Item, Skipped}
+
+-- the items of a body are scalars, or bytes by the form, and take no more bytes than what they were read from
+pub record Sizes (form : Form) (b : Body) (start end : ℕ) : Type 0 where
+  pub room : start + length (writtenOf form (b .items)) ≤ end
+  pub scalars : isBytes form ≡ false → AllScalar (b .items)
+
+sizes-none : (form : Form) (e : Ending) (start end : ℕ) → start ≤ end → Sizes form (noMore e) start end
+unfolding writtenOf AllScalar
+sizes-none form e start end h = record { room = omega arith; scalars = λ z. tt }
+
+sizes-also : (form : Form) (b : Body) (start x n end : ℕ) → Fits form start x n → Sizes form b n end → Sizes form (also x b) start end
+unfolding writtenOf AllScalar
+sizes-also form b start x n end f h =
+    record {
+      room = omega (arith, f .room, h .room, length-append (itemBytes form x) (writtenOf form (b .items)));
+      scalars = λ z. (f .scalar z, h .scalars z);
+    }
+
+sizes-later : (form : Form) (b : Body) (start n end : ℕ) → start ≤ n → Sizes form b n end → Sizes form b start end
+sizes-later form b start n end l h = record { room = omega (arith, h .room); scalars = h .scalars }
+
+sizes-turn : (form : Form) (p : ℕ) (e : Escape) (go : ℕ → Body) (end : ℕ) → p ≤ placeOf e → placeOf e ≤ end → ((x n : ℕ) → e ≡ Item x n → Fits form p x n)
+    → ((n : ℕ) → n ≡ placeOf e → Sizes form (go n) n end) → Sizes form (turnOf p e go) p end
+unfolding turnOf
+sizes-turn form p (Item x n) go end l k f g = sizes-also form (go n) p x n end (f x n refl) (g n refl)
+sizes-turn form p (Skipped n) go end l k f g = sizes-later form (go n) p n end l (g n refl)
+sizes-turn form p (Bad number n) go end l k f g = sizes-none form (fault number p n) p end (omega arith)
+
+lands-after : (cs : List ℕ) (p r : ℕ) → Lands cs p r → r ≤ after cs p
+unfolding after
+lands-after [] p r h = omega arith
+lands-after (v ∷ cs) p r (inl h) = let a = lands-after cs (p + width v) (p + width v) (here cs (p + width v)) in omega arith
+lands-after (v ∷ cs) p r (inr h) = lands-after cs (p + width v) r h
+
+body-sizes : (form : Form) (cs : List ℕ) (t p : ℕ) → AllScalar cs → Lands cs p t → Sizes form (bodyOf form t cs p) t (after cs p)
+unfolding bodyOf after AllScalar
+body-sizes form [] t p a k = sizes-none form whole t p (omega arith)
+body-sizes form (v ∷ cs) t p a (inl k) =
+    let q = p + width v in
+    let e = itemOf form v cs q in
+    let l = item-lands form v cs q in
+    rw (le-ltb p t (omega arith), bodyOf)
+    (subst (λ (x : ℕ). Sizes form (turnOf p e (λ n. bodyOf form n cs q)) x (after cs q)) k
+    (sizes-turn form p e (λ n. bodyOf form n cs q) (after cs q) (omega (arith, lands-le cs q (placeOf e) l)) (lands-after cs q (placeOf e) l)
+    (λ x n h. item-fits form p v cs x n (a .0) h)
+    (λ n h. body-sizes form cs n q (a .1) (subst (λ (r : ℕ). Lands cs q r) (sym h) l))))
+body-sizes form (v ∷ cs) t p a (inr k) =
+    let b = lands-le cs (p + width v) t k in
+    let w = width-pos v in
+    rw (lt-ltb p t (omega arith), bodyOf) (body-sizes form cs t (p + width v) (a .1) k)
+
+sound-sizes : (form : Form) (s : List ℕ) → sourceTest s ≡ Sound → Sizes form (bodyAt form s 0) 0 (length s)
+unfolding soundTo rest
+sound-sizes form s h =
+    subst (λ (k : ℕ). Sizes form (bodyAt form s 0) 0 k) (sound-inv s h .1)
+    (body-sizes form (rest s 0) 0 0 (decode-scalar (drop 0 s)) (here (rest s 0) 0))
+
+-- what an accepted body is
+pub record Accepted (form : Form) (s : List ℕ) (room : ℕ) : Type 0 where
+  pub sound : sourceTest s ≡ Sound
+  pub items : List ℕ
+  pub count : wrongCount form (length items) ≡ false
+  pub fits : length (writtenOf form items) ≤ room
+  pub read : bodyOf form 0 (rest s 0) 0 ≡ record { items = items; ending = whole }
+  pub result : unescapeOf form s room ≡ wrote (writtenOf form items)
+
+-- the bytes of text are its scalars as UTF-8
+text-written : (form : Form) (l : List ℕ) → isBytes form ≡ false → writtenOf form l ≡ encodeAll l
+unfolding writtenOf encodeAll
+text-written form [] h = refl
+text-written form (x ∷ l) h = ap₂ (λ (a b : List ℕ). a ++ b) (scalar-bytes form x h) (text-written form l h)
+
+sound-of : (s : List ℕ) → after (rest s 0) 0 ≡ length s → length s ≤ 65536 → sourceTest s ≡ Sound
+unfolding sourceTest soundTo
+sound-of s h l = rw (le-ltb 65536 (length s) l, eq-eqb (after (rest s 0) 0) (length s) h)
+
+right-count : (form : Form) (n : ℕ) → isSingle form ≡ true → wrongCount form n ≡ false → n ≡ 1
+right-count form n h c = eqb-true n 1 (not-false (eqb n 1) (rw h at c))
+
+count-right : (form : Form) (n : ℕ) → (isSingle form ≡ true → n ≡ 1) → wrongCount form n ≡ false
+count-right form n h = split (isSingle form) (λ e. rw (e, eq-eqb n 1 (h e))) (λ e. rw e)
+
+single : (l : List ℕ) → length l ≡ 1 → (x : ℕ) × (l ≡ x ∷ [])
+single [] h = absurd (omega arith)
+single (x ∷ []) h = (x, refl)
+single (x ∷ (y ∷ l)) h = absurd (omega arith)
+
+by-tested {ℓ} : {X : Type ℓ} (t : Tested) → (t ≡ Sound → X) → (t ≡ TooLong → X) → ((at : ℕ) → t ≡ IllFormed at → X) → ((at : ℕ) → t ≡ Misplaced at → X) → X
+by-tested Sound f g h k = f refl
+by-tested TooLong f g h k = g refl
+by-tested (IllFormed at) f g h k = h at refl
+by-tested (Misplaced at) f g h k = k at refl
+
+not-wrote {ℓ} : {X : Type ℓ} (r : Result) (number start end n : ℕ) → r ≡ refuse number start end → r .answer ≡ Wrote n → X
+not-wrote r number start end n h e = never (let z = ap (λ (x : Result). x .answer) h in cc)
+
+module _ (form : Form) (s : List ℕ) (room n : ℕ) (e : unescapeOf form s room .answer ≡ Wrote n) where
+  accepted-sound : sourceTest s ≡ Sound → Accepted form s room
+  accepted-sound h =
+      let u = source-sound form s room (sourceTest s) refl h in
+      let b = bodyAt form s 0 in
+      by-ending (b .ending)
+      (λ w. split (wrongCount form (length (b .items)))
+      (λ c. not-wrote (unescapeOf form s room) 27 0 (length s) n (u ∙ read-whole form s room w ∙ rw c) e)
+      (λ c. split (ltb room (length (writtenOf form (b .items))))
+      (λ l. not-wrote (unescapeOf form s room) 26 0 (length s) n (u ∙ read-whole form s room w ∙ rw (c, l)) e)
+      (λ l. record {
+        sound = h;
+        items = b .items;
+        count = c;
+        fits = ltb-false room (length (writtenOf form (b .items))) l;
+        read = ap (λ (x : Ending). record { items = b .items; ending = x }) w;
+        result = u ∙ read-whole form s room w ∙ rw (c, l);
+      })))
+      (λ number start end w. not-wrote (unescapeOf form s room) number start end n (u ∙ read-fault form s room number start end w) e)
+
+  pub accepted : Accepted form s room
+  accepted =
+      by-tested (sourceTest s) (λ h. accepted-sound h)
+      (λ h. not-wrote (unescapeOf form s room) 1 0 0 n (source-long form s room (sourceTest s) refl h) e)
+      (λ at h. not-wrote (unescapeOf form s room) 2 at at n (source-ill form s room (sourceTest s) refl at h) e)
+      (λ at h. not-wrote (unescapeOf form s room) 4 at at n (source-misplaced form s room (sourceTest s) refl at h) e)
+
+  bytes-are : unescapeOf form s room .bytes ≡ writtenOf form (accepted .items)
+  bytes-are = ap (λ (r : Result). r .bytes) (accepted .result)
+
+  pub count-is-length : n ≡ length (unescapeOf form s room .bytes)
+  count-is-length = let z = ap (λ (r : Result). r .answer) (accepted .result) in let y : n ≡ length (writtenOf form (accepted .items)) = cc in y ∙ sym (ap length bytes-are)
+
+  sizes : Sizes form (bodyAt form s 0) 0 (length s)
+  sizes = sound-sizes form s (accepted .sound)
+
+  items-are : bodyAt form s 0 .items ≡ accepted .items
+  items-are = ap (λ (b : Body). b .items) (accepted .read)
+
+  -- the number of bytes written is at most the body's length
+  pub no-longer : n ≤ length s
+  no-longer = omega (arith, sizes .room, count-is-length, ap length bytes-are, ap (λ (l : List ℕ). length (writtenOf form l)) items-are)
+
+  -- the output of an accepted text, template or char body is a source: well-formed, and not over-long
+  pub well-formed : isBytes form ≡ false → sourceTest (unescapeOf form s room .bytes) ≡ Sound
+  well-formed h =
+      let all : AllScalar (accepted .items) = subst AllScalar items-are (sizes .scalars h) in
+      let enc : unescapeOf form s room .bytes ≡ encodeAll (accepted .items) = bytes-are ∙ text-written form (accepted .items) h in
+      sound-of (unescapeOf form s room .bytes)
+      (subst (λ (w : List ℕ). after (rest w 0) 0 ≡ length w) (sym enc) (all-whole (accepted .items) all))
+      (omega (arith, no-longer, count-is-length, sound-inv s (accepted .sound) .0))
+
+  -- an accepted char or byte body gives one item
+  pub one-item : isSingle form ≡ true → (x : ℕ) × (unescapeOf form s room .bytes ≡ itemBytes form x)
+  unfolding writtenOf
+  one-item h =
+      let one : length (accepted .items) ≡ 1 = right-count form (length (accepted .items)) h (accepted .count) in
+      let i = single (accepted .items) one in
+      (i .0, bytes-are ∙ ap (writtenOf form) (i .1) ∙ append-nil (itemBytes form (i .0)))
+
+-- a body in which every scalar stands for itself
+abbrev pub Bare : Form → List ℕ → Type 0
+Bare form [] = Unit {0}
+Bare form (v ∷ cs) = (v ≡ 0x5c → ⊥) × (isBytes form ≡ true → v ≤ 0x7f) × Bare form cs
+
+bare-item : (form : Form) (v : ℕ) (cs : List ℕ) (p : ℕ) → (v ≡ 0x5c → ⊥) → (isBytes form ≡ true → v ≤ 0x7f) → Item v p ≡ itemOf form v cs p
+bare-item form v cs p h k = split (isBytes form) (λ b. item-low form v cs p h b (k b)) (λ b. item-plain form v cs p h b)
+
+bare-body : (form : Form) (cs : List ℕ) (p : ℕ) → Bare form cs → bodyOf form 0 cs p ≡ record { items = cs; ending = whole }
+unfolding bodyOf turnOf
+bare-body form [] p h = refl
+bare-body form (v ∷ cs) p h =
+    let q = p + width v in
+    rw (le-ltb p 0 (omega arith), bodyOf)
+    (ap (λ (e : Escape). turnOf p e (λ n. bodyOf form n cs q)) (sym (bare-item form v cs q (h .0) (h .1)))
+    ∙ ap (also v) (arrived form cs q ∙ bare-body form cs q (h .2)))
+
+bare-written : (form : Form) (cs : List ℕ) → Bare form cs → writtenOf form cs ≡ encodeAll cs
+unfolding writtenOf encodeAll
+bare-written form [] h = refl
+bare-written form (v ∷ cs) h =
+    ap₂ (λ (a b : List ℕ). a ++ b)
+    (split (isBytes form) (λ b. byte-bytes form v b ∙ sym (encode-1 v (h .1 b))) (λ b. scalar-bytes form v b))
+    (bare-written form cs (h .2))
+
+-- a body without a backslash, and in the byte forms without a scalar above U+007F, comes out as it went in
+pub as-it-stands : (form : Form) (s : List ℕ) (room : ℕ) → sourceTest s ≡ Sound → Bare form (decode s) → (isSingle form ≡ true → length (decode s) ≡ 1) → length s ≤ room
+    → unescapeOf form s room ≡ wrote s
+unfolding rest soundTo
+as-it-stands form s room h b one l =
+    let body = bare-body form (rest s 0) 0 b in
+    let same : writtenOf form (decode s) ≡ s = bare-written form (decode s) b ∙ whole-encode s (sound-inv s h .1) in
+    let items : bodyAt form s 0 .items ≡ decode s = ap (λ (x : Body). x .items) body in
+    let c : wrongCount form (length (bodyAt form s 0 .items)) ≡ false = ap (λ (x : List ℕ). wrongCount form (length x)) items ∙ count-right form (length (decode s)) one in
+    let w : writtenOf form (bodyAt form s 0 .items) ≡ s = ap (writtenOf form) items ∙ same in
+    let z : ltb room (length (writtenOf form (bodyAt form s 0 .items))) ≡ false = le-ltb room (length (writtenOf form (bodyAt form s 0 .items))) (omega (arith, ap length w)) in
+    source-sound form s room (sourceTest s) refl h
+    ∙ read-whole form s room (ap (λ (x : Body). x .ending) body)
+    ∙ rw (c, z) (ap wrote w)
+
+-- an output as long as the body is enough: more room changes nothing, so 26 is never its answer
+pub enough-room : (form : Form) (s : List ℕ) (room : ℕ) → length s ≤ room → unescapeOf form s room ≡ unescapeOf form s (length s)
+enough-room form s room l =
+    by-tested (sourceTest s)
+    (λ h.
+    let b = sound-sizes form s h .room in
+    source-sound form s room (sourceTest s) refl h
+    ∙ by-ending (bodyAt form s 0 .ending)
+    (λ w.
+    read-whole form s room w
+    ∙ rw (le-ltb room (length (writtenOf form (bodyAt form s 0 .items))) (omega arith))
+    (sym (read-whole form s (length s) w ∙ rw (le-ltb (length s) (length (writtenOf form (bodyAt form s 0 .items))) (omega arith)))))
+    (λ number start end w. read-fault form s room number start end w ∙ sym (read-fault form s (length s) number start end w))
+    ∙ sym (source-sound form s (length s) (sourceTest s) refl h))
+    (λ h. source-long form s room (sourceTest s) refl h ∙ sym (source-long form s (length s) (sourceTest s) refl h))
+    (λ at h. source-ill form s room (sourceTest s) refl at h ∙ sym (source-ill form s (length s) (sourceTest s) refl at h))
+    (λ at h. source-misplaced form s room (sourceTest s) refl at h ∙ sym (source-misplaced form s (length s) (sourceTest s) refl at h))
+
+-- a refusal writes nothing
+pub refused-nothing : (form : Form) (s : List ℕ) (room : ℕ) (r : Refusal) → unescapeOf form s room .answer ≡ Refused r → unescapeOf form s room .bytes ≡ []
+refused-nothing form s room r e =
+    let Nothing : Result → Type 0 = λ x. x .answer ≡ Refused r → x .bytes ≡ [] in
+    let of : (x : Result) → unescapeOf form s room ≡ x → Nothing x → unescapeOf form s room .bytes ≡ [] = λ x q f. subst Nothing (sym q) f e in
+    by-tested (sourceTest s)
+    (λ h.
+    let u = source-sound form s room (sourceTest s) refl h in
+    by-ending (bodyAt form s 0 .ending)
+    (λ w. of _ (u ∙ read-whole form s room w)
+    (pick-of Nothing (wrongCount form (length (bodyAt form s 0 .items))) _ _ (λ z. refl)
+    (pick-of Nothing (ltb room (length (writtenOf form (bodyAt form s 0 .items)))) _ _ (λ z. refl) (λ z. never (cc)))))
+    (λ number start end w. of _ (u ∙ read-fault form s room number start end w) (λ z. refl)))
+    (λ h. of _ (source-long form s room (sourceTest s) refl h) (λ z. refl))
+    (λ at h. of _ (source-ill form s room (sourceTest s) refl at h) (λ z. refl))
+    (λ at h. of _ (source-misplaced form s room (sourceTest s) refl at h) (λ z. refl))
+
+-- two results that the promise allows, answers and lent bytes, are equal
+module _ (form : Form) (s out : List ℕ) where
+  abbrev pub Allowed : Unescaped → List ℕ → Type 0
+  Allowed r w = (r ≡ unescapeOf form s (length out) .answer) × (w ≡ sets out 0 (unescapeOf form s (length out) .bytes))
+
+  pub unescape-determined : (r q : Unescaped) (v w : List ℕ) → Allowed r v → Allowed q w → (r ≡ q) × (v ≡ w)
+  unescape-determined r q v w h k = (determined r q (h .0) (k .0), determined v w (h .1) (k .1))
+
+-- an accepted body changes only the bytes of its output
+pub only-output : (form : Form) (s out : List ℕ) (n : ℕ) → unescapeOf form s (length out) .answer ≡ Wrote n
+    → sets out 0 (unescapeOf form s (length out) .bytes) ≡ unescapeOf form s (length out) .bytes ++ drop n out
+only-output form s out n e =
+    let l = count-is-length form s (length out) n e in
+    let a = accepted form s (length out) n e in
+    let fits : 0 + length (unescapeOf form s (length out) .bytes) ≤ length out = omega (arith, a .fits, ap (λ (r : Result). length (r .bytes)) (a .result)) in
+    let end : 0 + length (unescapeOf form s (length out) .bytes) ≡ n = omega arith in
+    sets-eq (unescapeOf form s (length out) .bytes) out 0 fits ∙ ap (λ (k : ℕ). unescapeOf form s (length out) .bytes ++ drop k out) end

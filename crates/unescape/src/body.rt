@@ -1,0 +1,251 @@
+// A whole body: measured first, so that a refusal writes nothing, and then written.
+use crate::escape::Escape;
+use crate::escape::parse_byte_escape;
+use crate::escape::parse_char_escape;
+use encoding::Encoded;
+use text::Scalar;
+use text::Tested;
+use token::Refusal;
+use token::Span;
+use token::refusal::ILL_FORMED;
+use token::refusal::NO_PLACE;
+use token::refusal::NOT_ASCII;
+use token::refusal::NOT_ONE_ITEM;
+use token::refusal::OUTPUT_SHORT;
+use token::refusal::TOO_LONG;
+ghost use Prim.Native.Nat.{_+_, _≤_};
+ghost use mathlib.Core.Path.{_≡_};
+ghost use mathlib.Core.Bool.{true};
+ghost use lib.Seq.{sets};
+ghost use lib.ListN.{length, take};
+ghost use Rattle.encoding.specs.Encode.{padded};
+ghost use Rattle.text.specs.Utf8.{rest};
+ghost use Rattle.unescape.specs.Bodies.{bodyOf, isBytes, isSingle, isTemplate, itemBytes, itemOf, measuredOf, readOf, refusedAt, unescapeOf, writtenOf, wrongCount};
+
+// How a body is read. A char or a byte is one item.
+pub enum Form {
+    Text,
+    Template,
+    Char,
+    ByteText,
+    Byte,
+}
+
+// How many bytes were written, or why none.
+pub enum Unescaped {
+    Wrote { count: usize },
+    Refused { refusal: Refusal },
+}
+
+// How many items a body gives and how many bytes they take, or its first fault.
+enum Measured {
+    Whole {
+        items: usize,
+        count: usize,
+    },
+    Stopped {
+        number: u32,
+        start: usize,
+        end: usize,
+    },
+}
+
+fn is_bytes(form: Form) -> bool
+    ensures { λ r. ⌜ r ≡ isBytes form ⌝ }
+{
+    match form {
+        Form::Text => false,
+        Form::Template => false,
+        Form::Char => false,
+        Form::ByteText => true,
+        Form::Byte => true,
+    }
+}
+
+fn is_single(form: Form) -> bool
+    ensures { λ r. ⌜ r ≡ isSingle form ⌝ }
+{
+    match form {
+        Form::Text => false,
+        Form::Template => false,
+        Form::Char => true,
+        Form::ByteText => false,
+        Form::Byte => true,
+    }
+}
+
+fn is_template(form: Form) -> bool
+    ensures { λ r. ⌜ r ≡ isTemplate form ⌝ }
+{
+    match form {
+        Form::Text => false,
+        Form::Template => true,
+        Form::Char => false,
+        Form::ByteText => false,
+        Form::Byte => false,
+    }
+}
+
+// What the scalar v begins, with `next` behind it.
+fn item_at(s: &[u8], form: Form, v: u32, next: usize) -> Escape
+    ensures { λ r. ⌜ r ≡ itemOf form v (rest (now (s .entry)) next) next ⌝ }
+{
+    if is_bytes(form) {
+        if v == 0x5c {
+            return parse_byte_escape(s, next, !is_single(form));
+        }
+        if 0x7f < v {
+            return Escape::Bad {
+                number: NOT_ASCII,
+                next,
+            };
+        }
+        return Escape::Item { value: v, next };
+    }
+    if v == 0x5c {
+        return parse_char_escape(s, next, is_template(form), !is_single(form));
+    }
+    Escape::Item { value: v, next }
+}
+
+// The bytes of an item.
+fn item_bytes(form: Form, item: u32) -> Encoded
+    requires { ⌜ (isBytes form ≡ true → item ≤ 0xff) ⌝ }
+    ensures { λ r. ⌜ r ≡ padded (itemBytes form item) ⌝ }
+{
+    if is_bytes(form) {
+        let bytes = [item as u8, 0, 0, 0];
+        return Encoded { len: 1, bytes };
+    }
+    encoding::encode(item)
+}
+
+fn measure(s: &[u8], form: Form) -> Measured
+    ensures { λ r. ⌜ r ≡ measuredOf form 0 0 (bodyOf form 0 (rest (now (s .entry)) 0) 0) ⌝ }
+{
+    let mut at: usize = 0;
+    let mut items: usize = 0;
+    let mut count: usize = 0;
+    loop {
+        let Scalar::One { value, next } = text::scalar_at(s, at) else {
+            return Measured::Whole { items, count };
+        };
+        match item_at(s, form, value, next) {
+            Escape::Item {
+                value: item,
+                next: end,
+            } => {
+                let encoded = item_bytes(form, item);
+                items = items + 1;
+                count = count + encoded.len;
+                at = end;
+            }
+            Escape::Skipped { next: end } => {
+                at = end;
+            }
+            Escape::Bad { number, next: end } => {
+                return Measured::Stopped {
+                    number,
+                    start: at,
+                    end,
+                };
+            }
+        }
+    }
+}
+
+// The first `len` of four bytes, to the place n on.
+fn put(out: &mut [u8], n: usize, bytes: &[u8; 4], len: usize)
+    requires { ⌜ (len ≤ 4) × (len ≤ length (now bytes)) × (n + len ≤ length (now out)) ⌝ }
+    ensures { λ _. ⌜ now (out .exit) ≡ sets (now (out .entry)) n (take len (now (bytes .entry))) ⌝ }
+{
+    let mut i: usize = 0;
+    while i < len {
+        out[n + i] = bytes[i];
+        i = i + 1;
+    }
+}
+
+// The items up to the first fault, written from the first byte on.
+fn write_items(s: &[u8], form: Form, out: &mut [u8])
+    requires { ⌜ length (writtenOf form (bodyOf form 0 (rest (now s) 0) 0 .items)) ≤ length (now out) ⌝ }
+    ensures { λ _. ⌜ now (out .exit) ≡ sets (now (out .entry)) 0 (writtenOf form (bodyOf form 0 (rest (now (s .entry)) 0) 0 .items)) ⌝ }
+{
+    let mut at: usize = 0;
+    let mut n: usize = 0;
+    loop {
+        let Scalar::One { value, next } = text::scalar_at(s, at) else {
+            return;
+        };
+        match item_at(s, form, value, next) {
+            Escape::Item {
+                value: item,
+                next: end,
+            } => {
+                let encoded = item_bytes(form, item);
+                let len = encoded.len;
+                let bytes = encoded.bytes;
+                put(out, n, &bytes, len);
+                n = n + len;
+                at = end;
+            }
+            Escape::Skipped { next: end } => {
+                at = end;
+            }
+            Escape::Bad { number: _, next: _ } => {
+                return;
+            }
+        }
+    }
+}
+
+fn refuse(number: u32, start: usize, end: usize) -> Unescaped
+    ensures { λ r. ⌜ r ≡ refusedAt number start end ⌝ }
+{
+    Unescaped::Refused {
+        refusal: Refusal {
+            number,
+            span: Span { start, end },
+            reached: end,
+        },
+    }
+}
+
+// A char or byte body that gives other than one item.
+fn wrong_count(form: Form, items: usize) -> bool
+    ensures { λ r. ⌜ r ≡ wrongCount form items ⌝ }
+{
+    if is_single(form) { items != 1 } else { false }
+}
+
+// A body that is well-formed.
+fn unescape_sound(body: &[u8], form: Form, out: &mut [u8]) -> Unescaped
+    ensures answer { λ r. ⌜ r ≡ readOf form (now (body .entry)) (length (now (out .entry))) .answer ⌝ }
+    ensures bytes { λ _. ⌜ now (out .exit) ≡ sets (now (out .entry)) 0 (readOf form (now (body .entry)) (length (now (out .entry))) .bytes) ⌝ }
+{
+    match measure(body, form) {
+        Measured::Stopped { number, start, end } => refuse(number, start, end),
+        Measured::Whole { items, count } => {
+            if wrong_count(form, items) {
+                return refuse(NOT_ONE_ITEM, 0, body.len());
+            }
+            if out.len() < count {
+                return refuse(OUTPUT_SHORT, 0, body.len());
+            }
+            write_items(body, form, out);
+            Unescaped::Wrote { count }
+        }
+    }
+}
+
+pub fn unescape(body: &[u8], form: Form, out: &mut [u8]) -> Unescaped
+    ensures answer { λ r. ⌜ r ≡ unescapeOf form (now (body .entry)) (length (now (out .entry))) .answer ⌝ }
+    ensures bytes { λ _. ⌜ now (out .exit) ≡ sets (now (out .entry)) 0 (unescapeOf form (now (body .entry)) (length (now (out .entry))) .bytes) ⌝ }
+{
+    match text::test_source(body) {
+        Tested::Sound => unescape_sound(body, form, out),
+        Tested::TooLong => refuse(TOO_LONG, 0, 0),
+        Tested::IllFormed { at } => refuse(ILL_FORMED, at, at),
+        Tested::Misplaced { at } => refuse(NO_PLACE, at, at),
+    }
+}
