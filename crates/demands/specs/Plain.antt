@@ -1,0 +1,20 @@
+-- Demand 3: tokens up to the escape mark of strings, and rules that count places in bytes.
+use Rattle.families.specs.Moves.{withWide}
+use Rattle.numbers.specs.Kinds.{plainKind}
+use Rattle.readers.specs.Rules.{Rules}
+use Rattle.text.specs.Utf8.{width}
+use Rattle.token.specs.declared.read.Token.{Token}
+use Rattle.tokens.specs.Tokens.{Tokens, fin, halt, more}
+
+-- the rules R with places in bytes
+abbrev pub inBytes : Rules → Rules
+inBytes R = withWide R width
+
+-- a token up to the escape mark
+abbrev pub plainToken : Token → Token
+plainToken k = record { kind = plainKind (k .kind); span = k .span }
+
+unfoldable pub plainTokens : Tokens → Tokens
+plainTokens fin = fin
+plainTokens (halt r) = halt r
+plainTokens (more k ts) = more (plainToken k) (plainTokens ts)
