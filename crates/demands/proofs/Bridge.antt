@@ -7,7 +7,6 @@ use native.Mathlib.Omega.{arith}
 use lib.Dec.{leb}
 use lib.ListN.{drop, getD, length}
 use Rattle.demands.specs.Scalars.{Even, flat}
-use Rattle.families.proofs.Carried.{same-place}
 use Rattle.families.proofs.Ends.{after-le, base-after}
 use Rattle.families.specs.Places.{placeAfter}
 use Rattle.families.specs.Shape.{xs}
@@ -19,7 +18,6 @@ use Rattle.text.proofs.Decode.{by-first, end-first, first-at, first-whole, rest
 use Rattle.text.proofs.Leads.{four-inv, three-inv, two-inv}
 use Rattle.text.specs.Source.{soundTo}
 use Rattle.text.specs.Utf8.{first, fourOf, leadOf, rest, seq, threeOf, twoOf, width}
-use Rattle.tokens.specs.Tokens.{more}
 
 -- a sequence is known by its own bytes
 module _ (a b c d b′ c′ d′ v e : ℕ) (hb : 1 ≤ e → b′ ≡ b) (hc : 2 ≤ e → c′ ≡ c) (hd : 3 ≤ e → d′ ≡ d) where
@@ -51,10 +49,10 @@ own-step s t p v cs h len g =
     let w : width v ≡ suc k = ap width (sym ev) ∙ first-whole (drop p s) v′ k e .0 in
     let past = z .past in
     let room = z .room in
-    let same-place : p + 0 ≡ p = omega arith in
+    let at-first : p + 0 ≡ p = omega arith in
     let f : first (drop p t) ≡ seq v′ k =
     first-at t p (omega arith)
-    ∙ ap (λ (x : ℕ). leadOf x (getD t (p + 1) 0) (getD t (p + 2) 0) (getD t (p + 3) 0)) (rw same-place at (g 0 (omega arith)))
+    ∙ ap (λ (x : ℕ). leadOf x (getD t (p + 1) 0) (getD t (p + 2) 0) (getD t (p + 3) 0)) (rw at-first at (g 0 (omega arith)))
     ∙ lead-own (getD s p 0) (getD s (p + 1) 0) (getD s (p + 2) 0) (getD s (p + 3) 0) (getD t (p + 1) 0) (getD t (p + 2) 0) (getD t (p + 3) 0) v′ k
     (λ l. g 1 (omega arith)) (λ l. g 2 (omega arith)) (λ l. g 3 (omega arith)) (sym (first-at s p (omega arith)) ∙ e) in
     let u = step-first t p v′ k f in
@@ -84,8 +82,8 @@ xs-run t (suc k) p h g =
     let x : getD t p 0 ≡ 120 = (rw e at (g 0 (omega arith))) in
     let u = step-ascii t p (omega arith) (omega arith) in
     let n : p + 1 + k ≡ p + suc k = omega arith in
-    let more : rest t (p + 1) ≡ xs k ++ rest t (p + 1 + k) = xs-run t k (p + 1) (omega arith) (λ i l. let y : p + suc i ≡ p + 1 + i = omega arith in (rw y at (g (suc i) (omega arith)))) in
-    u .here ∙ (λ i. x i ∷ more i) ∙ ap (λ (q : ℕ). 120 ∷ (xs k ++ rest t q)) n
+    let left : rest t (p + 1) ≡ xs k ++ rest t (p + 1 + k) = xs-run t k (p + 1) (omega arith) (λ i l. let y : p + suc i ≡ p + 1 + i = omega arith in (rw y at (g (suc i) (omega arith)))) in
+    u .here ∙ (λ i. x i ∷ left i) ∙ ap (λ (q : ℕ). 120 ∷ (xs k ++ rest t q)) n
 
 module _ (m : ℕ → Bool) (s : List ℕ) where
   scalars : (cs : List ℕ) (p : ℕ) → cs ≡ rest s p → placeAfter base cs p ≡ length s → Even m cs p → rest (paint m s 0) p ≡ flat m cs p

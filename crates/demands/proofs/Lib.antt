@@ -1,2 +1,4 @@
 pub mod Flat
 pub mod Bridge
+pub mod Marked
+pub mod Shown
