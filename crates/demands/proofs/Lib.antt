@@ -2,3 +2,4 @@ pub mod Flat
 pub mod Bridge
 pub mod Marked
 pub mod Shown
+pub mod Same
