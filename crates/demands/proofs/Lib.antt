@@ -3,3 +3,5 @@ pub mod Bridge
 pub mod Marked
 pub mod Shown
 pub mod Same
+pub mod Plains
+pub mod Outlines
