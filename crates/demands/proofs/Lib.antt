@@ -5,3 +5,4 @@ pub mod Shown
 pub mod Same
 pub mod Plains
 pub mod Outlines
+pub mod Lists
