@@ -16,7 +16,7 @@ use Rattle.text.proofs.Decode.{width-pos}
 use Rattle.text.proofs.Leads.{width-1, width-2, width-3, width-4}
 use Rattle.text.specs.Utf8.{width}
 use Rattle.unescape.proofs.Escapes.{hex-small}
-use Rattle.unescape.proofs.Lands.{byte-lands, lands-le, low-lands, pick-by, pick-of, placeOf, shared-place}
+use Rattle.unescape.proofs.Lands.{lands-le, low-lands, pick-by, pick-of, placeOf, shared-place}
 use Rattle.unescape.specs.Bodies.{escapeOf, isBytes, isSingle, isTemplate, itemBytes, itemOf, plainOf}
 use Rattle.unescape.specs.Escapes.{byteEscape, byteTurn, charEscape, charTurn, closeOf, digitsOf, hexOf, hexSecond, lineEnd, lowOnly, sharedOf, shiftIn, templateOf, unicodeOf}
 use Rattle.unescape.specs.declared.body.Form.{Form}
@@ -27,28 +27,28 @@ pub width-most : (v : ℕ) → width v ≤ 4
 width-most v =
     by-row v (λ h. omega (arith, width-1 v h)) (λ h k. omega (arith, width-2 v h k)) (λ h k. omega (arith, width-3 v h k)) (λ h. omega (arith, width-4 v h))
 
--- an item below 0x80; a byte; a scalar that is no wider than the escape, which began one before p
+-- an item below 0x80; a byte; a scalar. What follows the backslash starts at p, and is no narrower than the item
 abbrev Low : Escape → Type 0
 Low (Item x n) = x ≤ 0x7f
 Low (Skipped n) = Unit {0}
 Low (Bad number n) = Unit {0}
 
-abbrev ByteItem : Escape → Type 0
-ByteItem (Item x n) = x ≤ 0xff
-ByteItem (Skipped n) = Unit {0}
-ByteItem (Bad number n) = Unit {0}
+abbrev ByteItem : ℕ → Escape → Type 0
+ByteItem p (Item x n) = (x ≤ 0xff) × (p < n)
+ByteItem p (Skipped n) = Unit {0}
+ByteItem p (Bad number n) = Unit {0}
 
 abbrev CharItem : ℕ → Escape → Type 0
-CharItem p (Item x n) = (isScalar x ≡ true) × (p + width x ≤ n + 1)
+CharItem p (Item x n) = (isScalar x ≡ true) × (p + width x ≤ n)
 CharItem p (Skipped n) = Unit {0}
 CharItem p (Bad number n) = Unit {0}
 
-low-byte : (e : Escape) → Low e → ByteItem e
-low-byte (Item x n) h = omega arith
-low-byte (Skipped n) h = tt
-low-byte (Bad number n) h = tt
+low-byte : (p : ℕ) (e : Escape) → p < placeOf e → Low e → ByteItem p e
+low-byte p (Item x n) l h = (omega arith, l)
+low-byte p (Skipped n) l h = tt
+low-byte p (Bad number n) l h = tt
 
-low-char : (p : ℕ) (e : Escape) → p ≤ placeOf e → Low e → CharItem p e
+low-char : (p : ℕ) (e : Escape) → p < placeOf e → Low e → CharItem p e
 low-char p (Item x n) l h = (scalar-low x (omega arith), omega (arith, width-1 x h))
 low-char p (Skipped n) l h = tt
 low-char p (Bad number n) l h = tt
@@ -68,16 +68,6 @@ only-low : (e : Escape) → Low (lowOnly e)
 only-low (Item x n) = pick-by Low (leb x 0x7f) (Item x n) (Bad 23 n) (λ h. leb-true x 0x7f h) tt
 only-low (Skipped n) = tt
 only-low (Bad number n) = tt
-
-second-byte : (x : ℕ) (cs : List ℕ) (p : ℕ) → x < 16 → ByteItem (hexSecond x cs p)
-unfolding hexSecond
-second-byte x [] p h = tt
-second-byte x (v ∷ cs) p h = pick-of ByteItem (isHexDigit v) (Item (x * 16 + hexValue v) (p + width v)) (Bad 24 (p + width v)) (omega (arith, hex-small v)) tt
-
-hex-byte : (cs : List ℕ) (p : ℕ) → ByteItem (hexOf cs p)
-unfolding hexOf
-hex-byte [] p = tt
-hex-byte (v ∷ cs) p = pick-of ByteItem (isHexDigit v) (hexSecond (hexValue v) cs (p + width v)) (Bad 24 (p + width v)) (second-byte (hexValue v) cs (p + width v) (hex-small v)) tt
 
 -- behind the brace at p: a scalar, with a digit still to come or not, and the other brace
 abbrev Digits : Bool → ℕ → Escape → Type 0
@@ -105,6 +95,30 @@ digits-item b x (v ∷ cs) p =
     (λ k. rw (h, k, digitsOf) tt))
 
 module _ (p q : ℕ) (l : p < q) where
+  second-byte : (x : ℕ) (cs : List ℕ) (r : ℕ) → q ≤ r → x < 16 → ByteItem p (hexSecond x cs r)
+  unfolding hexSecond
+  second-byte x [] r k h = tt
+  second-byte x (v ∷ cs) r k h =
+      pick-of (ByteItem p) (isHexDigit v) (Item (x * 16 + hexValue v) (r + width v)) (Bad 24 (r + width v)) (omega (arith, hex-small v), omega arith) tt
+
+  hex-byte : (cs : List ℕ) → ByteItem p (hexOf cs q)
+  unfolding hexOf
+  hex-byte [] = tt
+  hex-byte (v ∷ cs) =
+      pick-of (ByteItem p) (isHexDigit v) (hexSecond (hexValue v) cs (q + width v)) (Bad 24 (q + width v)) (second-byte (hexValue v) cs (q + width v) (omega arith) (hex-small v)) tt
+
+  line-byte : (b : Bool) (cs : List ℕ) → ByteItem p (lineEnd b cs q)
+  line-byte true cs = tt
+  line-byte false cs = tt
+
+  byte-turn-item : (b : Bool) (v : ℕ) (cs : List ℕ) → ByteItem p (byteTurn b v cs q)
+  unfolding byteTurn
+  byte-turn-item b v cs =
+      pick-of (ByteItem p) (eqb v 0x0a) _ _ (line-byte b cs)
+      (pick-of (ByteItem p) (eqb v 0x0d) _ _ (line-byte b cs)
+      (pick-of (ByteItem p) (eqb v 0x78) _ _ (hex-byte cs)
+      (pick-of (ByteItem p) (eqb v 0x75) _ _ tt (low-byte p (sharedOf v q) (omega (arith, shared-place v q)) (shared-low v q)))))
+
   digits-char : (v : ℕ) (e : Escape) → Digits false (q + width v) e → CharItem p e
   digits-char v (Item x n) h = (h .0, omega (arith, h .1, width-most x, width-pos v))
   digits-char v (Skipped n) h = tt
@@ -146,19 +160,10 @@ unfolding charEscape
 char-item m b [] p = tt
 char-item m b (v ∷ cs) p = char-turn-item p (p + width v) (omega (arith, width-pos v)) m b v cs
 
-line-byte : (b : Bool) (cs : List ℕ) (p : ℕ) → ByteItem (lineEnd b cs p)
-line-byte true cs p = tt
-line-byte false cs p = tt
-
-byte-item : (b : Bool) (cs : List ℕ) (p : ℕ) → ByteItem (byteEscape b cs p)
-unfolding byteEscape byteTurn
+byte-item : (b : Bool) (cs : List ℕ) (p : ℕ) → ByteItem p (byteEscape b cs p)
+unfolding byteEscape
 byte-item b [] p = tt
-byte-item b (v ∷ cs) p =
-    let q = p + width v in
-    pick-of ByteItem (eqb v 0x0a) _ _ (line-byte b cs q)
-    (pick-of ByteItem (eqb v 0x0d) _ _ (line-byte b cs q)
-    (pick-of ByteItem (eqb v 0x78) _ _ (hex-byte cs q)
-    (pick-of ByteItem (eqb v 0x75) _ _ tt (low-byte (sharedOf v q) (shared-low v q)))))
+byte-item b (v ∷ cs) p = byte-turn-item p (p + width v) (omega (arith, width-pos v)) b v cs
 
 -- an item that was read from the bytes between a and n: its own bytes are no more, and it is a scalar or a byte by the form
 pub record Fits (form : Form) (a x n : ℕ) : Type 0 where
@@ -186,40 +191,46 @@ module _ (form : Form) (x : ℕ) where
   fits-scalar : (a n : ℕ) → isBytes form ≡ false → a + width x ≤ n → isScalar x ≡ true → Fits form a x n
   fits-scalar a n h l k = record { room = omega (arith, ap length (scalar-bytes h), encode-length x k); scalar = λ z. k; byte = λ z. never (cc) }
 
--- an escape whose backslash stands at a
-module _ (form : Form) (a : ℕ) where
-  fit-byte : isBytes form ≡ true → (e : Escape) → a < placeOf e → ByteItem e → Fit form a e
-  fit-byte h (Item x n) l k = fits-byte form x a n h l k
-  fit-byte h (Skipped n) l k = tt
-  fit-byte h (Bad number n) l k = tt
+module _ (form : Form) (p : ℕ) where
+  fit-byte : isBytes form ≡ true → (e : Escape) → ByteItem p e → Fit form p e
+  fit-byte h (Item x n) k = fits-byte form x p n h (k .1) (k .0)
+  fit-byte h (Skipped n) k = tt
+  fit-byte h (Bad number n) k = tt
 
-  fit-char : isBytes form ≡ false → (e : Escape) → CharItem (a + 1) e → Fit form a e
-  fit-char h (Item x n) k = fits-scalar form x a n h (omega (arith, k .1)) (k .0)
+  fit-char : isBytes form ≡ false → (e : Escape) → CharItem p e → Fit form p e
+  fit-char h (Item x n) k = fits-scalar form x p n h (k .1) (k .0)
   fit-char h (Skipped n) k = tt
   fit-char h (Bad number n) k = tt
 
-  fit-escape : (cs : List ℕ) → Fit form a (escapeOf form cs (a + 1))
+  fit-escape : (cs : List ℕ) → Fit form p (escapeOf form cs p)
   fit-escape cs =
-      split (isBytes form)
-      (λ h. rw h (fit-byte h (byteEscape (not (isSingle form)) cs (a + 1)) (omega (arith, lands-le cs (a + 1) _ (byte-lands (not (isSingle form)) cs (a + 1)))) (byte-item (not (isSingle form)) cs (a + 1))))
-      (λ h. rw h (fit-char h (charEscape (isTemplate form) (not (isSingle form)) cs (a + 1)) (char-item (isTemplate form) (not (isSingle form)) cs (a + 1))))
+      split (isBytes form) (λ h. rw h (fit-byte h (byteEscape (not (isSingle form)) cs p) (byte-item (not (isSingle form)) cs p)))
+      (λ h. rw h (fit-char h (charEscape (isTemplate form) (not (isSingle form)) cs p) (char-item (isTemplate form) (not (isSingle form)) cs p)))
 
-  fit-plain : (v : ℕ) → isScalar v ≡ true → Fit form a (plainOf form v (a + width v))
+  fit-plain : (v : ℕ) → isScalar v ≡ true → Fit form p (plainOf form v (p + width v))
   fit-plain v i =
       split (isBytes form)
-      (λ h. split (ltb 0x7f v) (λ k. rw (h, k) tt) (λ k. rw (h, k) (fits-byte form v a (a + width v) h (omega (arith, width-pos v)) (omega (arith, ltb-false 0x7f v k)))))
-      (λ h. rw h (fits-scalar form v a (a + width v) h (omega arith) i))
+      (λ h. split (ltb 0x7f v) (λ k. rw (h, k) tt) (λ k. rw (h, k) (fits-byte form v p (p + width v) h (omega (arith, width-pos v)) (omega (arith, ltb-false 0x7f v k)))))
+      (λ h. rw h (fits-scalar form v p (p + width v) h (omega arith) i))
 
-  item-fit : (v : ℕ) (cs : List ℕ) → isScalar v ≡ true → Fit form a (itemOf form v cs (a + width v))
-  unfolding itemOf
-  item-fit v cs i =
-      split-eq v 0x5c
-      (λ e. let w : a + width v ≡ a + 1 = omega (arith, width-1 v (omega arith)) in
-      rw (eq-eqb v 0x5c e) (subst (λ (p : ℕ). Fit form a (escapeOf form cs p)) (sym w) (fit-escape cs)))
-      (λ e. rw (ne-eqb v 0x5c e) (fit-plain v i))
+fits-later : (form : Form) (a b x n : ℕ) → a ≤ b → Fits form b x n → Fits form a x n
+fits-later form a b x n l f = record { room = omega (arith, f .room); scalar = f .scalar; byte = f .byte }
 
-  pub item-fits : (v : ℕ) (cs : List ℕ) (x n : ℕ) → isScalar v ≡ true → itemOf form v cs (a + width v) ≡ Item x n → Fits form a x n
-  item-fits v cs x n i e = subst (Fit form a) e (item-fit v cs i)
+-- the item of an escape fits behind its backslash, which stands at a
+pub escape-fits : (form : Form) (a v : ℕ) (cs : List ℕ) (x n : ℕ) → v ≡ 0x5c → itemOf form v cs (a + width v) ≡ Item x n → Fits form (a + 1) x n
+unfolding itemOf
+escape-fits form a v cs x n e h =
+    let w : a + width v ≡ a + 1 = omega (arith, width-1 v (omega arith)) in
+    let f : itemOf form v cs (a + width v) ≡ escapeOf form cs (a + 1) = rw (eq-eqb v 0x5c e) (ap (escapeOf form cs) w) in
+    subst (Fit form (a + 1)) (sym f ∙ h) (fit-escape form (a + 1) cs)
+
+pub item-fits : (form : Form) (a v : ℕ) (cs : List ℕ) (x n : ℕ) → isScalar v ≡ true → itemOf form v cs (a + width v) ≡ Item x n → Fits form a x n
+unfolding itemOf
+item-fits form a v cs x n i h =
+    split-eq v 0x5c (λ e. fits-later form a (a + 1) x n (omega arith) (escape-fits form a v cs x n e h))
+    (λ e.
+    let f : itemOf form v cs (a + width v) ≡ plainOf form v (a + width v) = rw (ne-eqb v 0x5c e) in
+    subst (Fit form a) (sym f ∙ h) (fit-plain form a v i))
 
 -- no item has more than four bytes
 pub item-four : (form : Form) (x : ℕ) → length (itemBytes form x) ≤ 4

@@ -1,30 +1,31 @@
 -- What holds of every body: its bytes are well-formed text, one item for a char or a byte, no more bytes than the body has,
 -- and a body without escapes as it stands. Assumes nothing.
-use Prim.Native.Nat.{ℕ, _+_, _≤_}
+use Prim.Native.Nat.{ℕ, _+_, _≤_, _<_}
 use mathlib.Core.Path.{_≡_, refl, sym, ap, ap₂, _∙_, subst}
 use mathlib.Core.List.{List, [], _∷_, _++_, append-nil}
 use mathlib.Core.Bool.{true, false}
-use mathlib.Core.Logic.{inl, inr}
+use mathlib.Core.Logic.{inl, inr, _⊎_, ⊎-elim}
 use native.Mathlib.Omega.{arith}
 use lib.Dec.{ltb, eqb}
 use lib.Seq.{sets, sets-eq}
 use lib.ListN.{drop, length, length-append}
 use borrow.Author.Tests.{eq-eqb, eqb-true, le-ltb, lt-ltb, ltb-false, not-false}
 use Rattle.encoding.proofs.Round.{all-whole, decode-scalar, whole-encode}
-use Rattle.encoding.proofs.Rows.{encode-1}
-use Rattle.encoding.specs.Encode.{AllScalar, encodeAll}
-use Rattle.laws.proofs.Cases.{never, split}
+use Rattle.encoding.proofs.Rows.{encode-1, encode-length}
+use Rattle.encoding.specs.Encode.{AllScalar, encodeAll, isScalar}
+use Rattle.laws.proofs.Cases.{never, split, split-eq, split-le}
 use Rattle.laws.proofs.Determined.{determined}
 use Rattle.laws.specs.Bools.{same}
 use Rattle.text.proofs.Decode.{width-pos}
+use Rattle.text.proofs.Leads.{width-1}
 use Rattle.text.proofs.Places.{sound-inv}
 use Rattle.text.specs.Source.{soundTo, sourceTest}
 use Rattle.text.specs.Utf8.{after, decode, rest, width}
 use Rattle.text.specs.declared.source.Tested.{Tested}
 use Rattle.text.specs.declared.source.Tested.the-variants.{IllFormed, Misplaced, Sound, TooLong}
 use Rattle.token.specs.declared.read.Refusal.{Refusal}
-use Rattle.unescape.proofs.Bodies.{arrived, bodyAt, by-ending, item-low, item-plain, read-fault, read-whole, source-ill, source-long, source-misplaced, source-sound}
-use Rattle.unescape.proofs.Items.{Fits, byte-bytes, item-fits, scalar-bytes}
+use Rattle.unescape.proofs.Bodies.{arrived, bodyAt, by-ending, item-high, item-low, item-plain, read-fault, read-whole, source-ill, source-long, source-misplaced, source-sound}
+use Rattle.unescape.proofs.Items.{Fits, byte-bytes, escape-fits, item-fits, scalar-bytes}
 use Rattle.unescape.proofs.Lands.{Lands, here, item-lands, lands-le, pick-of, placeOf}
 use Rattle.unescape.specs.Bodies.{Body, Ending, Result, also, bodyOf, fault, isBytes, isSingle, itemBytes, itemOf, noMore, refuse, turnOf, unescapeOf, whole, writtenOf, wrongCount, wrote}
 use Rattle.unescape.specs.declared.body.Form.{Form}
@@ -53,12 +54,12 @@ sizes-also form b start x n end f h =
 sizes-later : (form : Form) (b : Body) (start n end : ℕ) → start ≤ n → Sizes form b n end → Sizes form b start end
 sizes-later form b start n end l h = record { room = omega (arith, h .room); scalars = h .scalars }
 
-sizes-turn : (form : Form) (p : ℕ) (e : Escape) (go : ℕ → Body) (end : ℕ) → p ≤ placeOf e → placeOf e ≤ end → ((x n : ℕ) → e ≡ Item x n → Fits form p x n)
-    → ((n : ℕ) → n ≡ placeOf e → Sizes form (go n) n end) → Sizes form (turnOf p e go) p end
+sizes-turn : (form : Form) (a p : ℕ) (e : Escape) (go : ℕ → Body) (end : ℕ) → a ≤ placeOf e → placeOf e ≤ end → ((x n : ℕ) → e ≡ Item x n → Fits form a x n)
+    → ((n : ℕ) → n ≡ placeOf e → Sizes form (go n) n end) → Sizes form (turnOf p e go) a end
 unfolding turnOf
-sizes-turn form p (Item x n) go end l k f g = sizes-also form (go n) p x n end (f x n refl) (g n refl)
-sizes-turn form p (Skipped n) go end l k f g = sizes-later form (go n) p n end l (g n refl)
-sizes-turn form p (Bad number n) go end l k f g = sizes-none form (fault number p n) p end (omega arith)
+sizes-turn form a p (Item x n) go end l k f g = sizes-also form (go n) a x n end (f x n refl) (g n refl)
+sizes-turn form a p (Skipped n) go end l k f g = sizes-later form (go n) a n end l (g n refl)
+sizes-turn form a p (Bad number n) go end l k f g = sizes-none form (fault number p n) a end (omega arith)
 
 lands-after : (cs : List ℕ) (p r : ℕ) → Lands cs p r → r ≤ after cs p
 unfolding after
@@ -75,7 +76,7 @@ body-sizes form (v ∷ cs) t p a (inl k) =
     let l = item-lands form v cs q in
     rw (le-ltb p t (omega arith), bodyOf)
     (subst (λ (x : ℕ). Sizes form (turnOf p e (λ n. bodyOf form n cs q)) x (after cs q)) k
-    (sizes-turn form p e (λ n. bodyOf form n cs q) (after cs q) (omega (arith, lands-le cs q (placeOf e) l)) (lands-after cs q (placeOf e) l)
+    (sizes-turn form p p e (λ n. bodyOf form n cs q) (after cs q) (omega (arith, lands-le cs q (placeOf e) l)) (lands-after cs q (placeOf e) l)
     (λ x n h. item-fits form p v cs x n (a .0) h)
     (λ n h. body-sizes form cs n q (a .1) (subst (λ (r : ℕ). Lands cs q r) (sym h) l))))
 body-sizes form (v ∷ cs) t p a (inr k) =
@@ -227,6 +228,56 @@ as-it-stands form s room h b one l =
     source-sound form s room (sourceTest s) refl h
     ∙ read-whole form s room (ap (λ (x : Body). x .ending) body)
     ∙ rw (c, z) (ap wrote w)
+
+-- what begins with a backslash gives fewer bytes than it has
+slash-less : (form : Form) (v : ℕ) (cs : List ℕ) (p : ℕ) → AllScalar cs → v ≡ 0x5c → p + length (writtenOf form (bodyOf form 0 (v ∷ cs) p .items)) < after (v ∷ cs) p
+unfolding bodyOf after
+slash-less form v cs p a h =
+    let q = p + width v in
+    let e = itemOf form v cs q in
+    let l = item-lands form v cs q in
+    let b = lands-le cs q (placeOf e) l in
+    let z = sizes-turn form (p + 1) p e (λ n. bodyOf form n cs q) (after cs q) (omega (arith, width-pos v)) (lands-after cs q (placeOf e) l)
+    (λ x n k. escape-fits form p v cs x n h k)
+    (λ n k. body-sizes form cs n q a (subst (λ (r : ℕ). Lands cs q r) (sym k) l)) in
+    rw (le-ltb p 0 (omega arith), bodyOf) (omega (arith, z .room))
+
+-- a scalar that stands for itself has as many bytes as its width; a fault at it has none
+plain-body : (form : Form) (v : ℕ) (cs : List ℕ) (p : ℕ) → (v ≡ 0x5c → ⊥) → isScalar v ≡ true
+    → ((isBytes form ≡ true → v ≤ 0x7f) × (length (writtenOf form (bodyOf form 0 (v ∷ cs) p .items)) ≡ width v + length (writtenOf form (bodyOf form 0 cs (p + width v) .items))))
+    ⊎ (length (writtenOf form (bodyOf form 0 (v ∷ cs) p .items)) ≡ 0)
+unfolding bodyOf turnOf writtenOf
+plain-body form v cs p h i =
+    let q = p + width v in
+    let go : Escape → Body = λ e. turnOf p e (λ n. bodyOf form n cs q) in
+    let on : (n : ℕ) → length (itemBytes form v) ≡ n → length (writtenOf form (go (Item v q) .items)) ≡ n + length (writtenOf form (bodyOf form 0 cs q .items)) =
+    λ n w. length-append (itemBytes form v) (writtenOf form (bodyOf form q cs q .items))
+    ∙ ap₂ (λ (x y : ℕ). x + y) w (ap (λ (b : Body). length (writtenOf form (b .items))) (arrived form cs q)) in
+    rw (le-ltb p 0 (omega arith), bodyOf)
+    (split (isBytes form)
+    (λ b. split-le v 0x7f
+    (λ l. inl (λ z. l, ap (λ (e : Escape). length (writtenOf form (go e .items))) (sym (item-low form v cs q h b l)) ∙ on (width v) (ap length (byte-bytes form v b) ∙ sym (width-1 v l))))
+    (λ l. inr (ap (λ (e : Escape). length (writtenOf form (go e .items))) (sym (item-high form v cs q h b l)))))
+    (λ b. inl (λ z. never (cc), ap (λ (e : Escape). length (writtenOf form (go e .items))) (sym (item-plain form v cs q h b)) ∙ on (width v) (ap length (scalar-bytes form v b) ∙ encode-length v i))))
+
+all-bare : (form : Form) (cs : List ℕ) (p : ℕ) → AllScalar cs → p + length (writtenOf form (bodyOf form 0 cs p .items)) ≡ after cs p → Bare form cs
+unfolding AllScalar after
+all-bare form [] p a h = tt
+all-bare form (v ∷ cs) p a h =
+    let q = p + width v in
+    let far = lands-after cs q q (here cs q) in
+    let w = width-pos v in
+    split-eq v 0x5c (λ e. absurd (omega (arith, slash-less form v cs p (a .1) e)))
+    (λ e. ⊎-elim (λ k. (e, k .0, all-bare form cs q (a .1) (omega (arith, k .1)))) (λ k. absurd (omega arith)) (plain-body form v cs p e (a .0)))
+
+-- only a body in which every scalar stands for itself gives as many bytes as it has
+pub as-long : (form : Form) (s : List ℕ) (room n : ℕ) → unescapeOf form s room .answer ≡ Wrote n → n ≡ length s → Bare form (decode s)
+unfolding rest soundTo
+as-long form s room n e h =
+    let a = accepted form s room n e in
+    let z = sound-inv s (a .sound) .1 in
+    all-bare form (rest s 0) 0 (decode-scalar s)
+    (omega (arith, count-is-length form s room n e, ap (λ (r : Result). length (r .bytes)) (a .result), ap (λ (b : Body). length (writtenOf form (b .items))) (a .read)))
 
 -- an output as long as the body is enough: more room changes nothing, so 26 is never its answer
 pub enough-room : (form : Form) (s : List ℕ) (room : ℕ) → length s ≤ room → unescapeOf form s room ≡ unescapeOf form s (length s)
