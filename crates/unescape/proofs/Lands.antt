@@ -78,7 +78,7 @@ low-place (Item x n) = pick-of (λ (e : Escape). placeOf e ≡ n) (leb x 0x7f) (
 low-place (Skipped n) = refl
 low-place (Bad number n) = refl
 
--- ends at p or behind the scalar that stands there
+-- an escape that reaches such a place
 abbrev Past : List ℕ → ℕ → Escape → Type 0
 Past cs p e = Lands cs p (placeOf e)
 
