@@ -18,7 +18,6 @@ use Rattle.lexer.specs.Next.{nextOf}
 use Rattle.outline.specs.Outline.{insideAt, insideToken}
 use Rattle.readers.proofs.Lands.{lands-le}
 use Rattle.readers.specs.Rules.{Rules, base}
-use Rattle.readers.specs.Scan.{on}
 use Rattle.text.proofs.Decode.{width-pos}
 use Rattle.text.specs.Utf8.{width}
 use Rattle.token.specs.Reads.{reachedOf}
@@ -111,7 +110,7 @@ module _ (R : Rules) (n : ℕ) where
         (λ h. first-in k ts q (ltb-true q (k .span .end) h) ∙ dot-plain R n tick (v ∷ (u ∷ x)) p k (f .read) (eq-eqb v 46 d) q)
         (λ h.
         let le = ltb-false q (k .span .end) h in
-        let on = f .passed in
+        let far = f .passed in
         let end : p + width v ≡ k .span .end = omega arith in
         let t = tokens-on (v ∷ []) (u ∷ x) p k (f .read) end (f .past) in
         let eq : more k (listed (u ∷ x) (k .span .end)) ≡ more k ts = sym t ∙ e in
@@ -143,8 +142,8 @@ module _ (R : Rules) (n : ℕ) where
         let back = s .back in
         let end = k .span .end in
         let past = f .past in
-        let on = tokens-on front back p k (ap (λ (l : List ℕ). nextOf (inBytes R) n l p) (sym (s .whole)) ∙ f .read) (s .ends) past in
-        let eq : more k (listed back end) ≡ more k ts = sym on ∙ ap (λ (l : List ℕ). listed l p) (sym (s .whole)) ∙ e in
+        let reading = tokens-on front back p k (ap (λ (l : List ℕ). nextOf (inBytes R) n l p) (sym (s .whole)) ∙ f .read) (s .ends) past in
+        let eq : more k (listed back end) ≡ more k ts = sym reading ∙ ap (λ (l : List ℕ). listed l p) (sym (s .whole)) ∙ e in
         let left : listed back end ≡ ts = cc in
         let mask : Mask ts m end = λ i l. a i (omega arith) ∙ later-in k ts i l in
         let h = ih back end left m mask in

@@ -26,8 +26,8 @@ use Rattle.lexer.specs.Next.{closeSpan, nextOf}
 use Rattle.lexer.specs.Rule.{nextIs}
 use Rattle.numbers.specs.Kinds.{hasInside}
 use Rattle.outline.specs.Outline.{insideToken}
+use Rattle.readers.specs.Readers.{shut}
 use Rattle.readers.specs.Rules.{Rules, base}
-use Rattle.readers.specs.Scan.{before, behind}
 use Rattle.text.proofs.Decode.{width-pos}
 use Rattle.text.specs.Utf8.{width}
 use Rattle.token.specs.Reads.{reachedOf}
@@ -164,14 +164,14 @@ module _ (R : Rules) (n : ℕ) where
           let b = lo-hi in
           let d = at-lo in
           let g = closes-far (f .form) hi in
-          let before : Const m o p false = λ i h u. a i h (omega arith) ∙ in-before k i (omega arith) in
+          let mark : Const m o p false = λ i h u. a i h (omega arith) ∙ in-before k i (omega arith) in
           let middle : Const m (f .mid) lo true = λ i h u. a i (omega arith) (omega arith) ∙ in-middle k i insides (omega arith) (omega arith) in
-          let behind : Const m c hi false = λ i h u. a i (omega arith) (omega arith) ∙ in-behind k i (omega arith) in
+          let shut : Const m c hi false = λ i h u. a i (omega arith) (omega arith) ∙ in-behind k i (omega arith) in
           let last : flat m (f .mid ++ c) lo ≡ xs (placeAfter base (f .mid) 0) ++ c =
-          flat-append m (f .mid) c lo ∙ (λ i. flat-all m (f .mid) lo middle i ++ flat-none m c hi behind i) in
-          let rests : Even m (f .mid ++ c) lo = even-append m (f .mid) c lo (even-const m (f .mid) lo true middle) (even-const m c hi false behind) in (
-            flat-append m o (f .mid ++ c) p ∙ (λ i. flat-none m o p before i ++ flat m (f .mid ++ c) (d i)) ∙ ap (λ (x : List ℕ). o ++ x) last,
-            even-append m o (f .mid ++ c) p (even-const m o p false before) (subst (λ (z : ℕ). Even m (f .mid ++ c) z) (sym d) rests),
+          flat-append m (f .mid) c lo ∙ (λ i. flat-all m (f .mid) lo middle i ++ flat-none m c hi shut i) in
+          let rests : Even m (f .mid ++ c) lo = even-append m (f .mid) c lo (even-const m (f .mid) lo true middle) (even-const m c hi false shut) in (
+            flat-append m o (f .mid ++ c) p ∙ (λ i. flat-none m o p mark i ++ flat m (f .mid ++ c) (d i)) ∙ ap (λ (x : List ℕ). o ++ x) last,
+            even-append m o (f .mid ++ c) p (even-const m o p false mark) (subst (λ (z : ℕ). Even m (f .mid ++ c) z) (sym d) rests),
           )
 
       frame-shown : Shown cs p k
