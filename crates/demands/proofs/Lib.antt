@@ -6,3 +6,5 @@ pub mod Same
 pub mod Plains
 pub mod Outlines
 pub mod Lists
+pub mod Demands
+pub mod Calls

@@ -35,6 +35,7 @@ use Rattle.token.specs.declared.kind.Kind.{Kind}
 use Rattle.token.specs.declared.read.Read.{Read}
 use Rattle.token.specs.declared.read.Read.the-variants.{Got, Refused}
 use Rattle.token.specs.declared.read.Token.{Token}
+use Rattle.tokens.proofs.Starred.{reads}
 use Rattle.outline.specs.Outline as shade
 
 pub in-bytes : (R : Rules) (f : List ℕ) (p : ℕ) → placeAfter (inBytes R) f p ≡ placeAfter base f p

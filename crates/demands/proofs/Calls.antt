@@ -1,0 +1,47 @@
+-- Any two results that a call's promise allows are equal: one law, and a line for each public call of a user's. Assumes nothing.
+use Prim.Native.Nat.{ℕ}
+use mathlib.Core.Path.{_≡_}
+use mathlib.Core.List.{List}
+use lib.Seq.{sets}
+use lib.ListN.{length}
+use Rattle.laws.proofs.Determined.{determined}
+use Rattle.lexer.specs.Next.{nextAt, readAt}
+use Rattle.listing.specs.Listing.{listOf, storedOf}
+use Rattle.listing.specs.declared.Listed.{Listed}
+use Rattle.outline.specs.Outline.{outlineOf, writtenOf}
+use Rattle.outline.specs.declared.Outlined.{Outlined}
+use Rattle.text.specs.Source.{positionTest, sourceTest}
+use Rattle.text.specs.Utf8.{scalarAt}
+use Rattle.text.specs.declared.source.Tested.{Tested}
+use Rattle.text.specs.declared.utf8.Scalar.{Scalar}
+use Rattle.token.specs.declared.read.Read.{Read}
+
+-- a promise with an answer and a lent slice afterwards
+pub determined-both : {A : Type 0} {d : A} {l : List ℕ} (r q : A) (v w : List ℕ) → (r ≡ d) × (v ≡ l) → (q ≡ d) × (w ≡ l) → (r ≡ q) × (v ≡ w)
+determined-both r q v w h k = (determined r q (h .0) (k .0), determined v w (h .1) (k .1))
+
+module _ (s : List ℕ) where
+  pub test-source-determined : (r q : Tested) → r ≡ sourceTest s → q ≡ sourceTest s → r ≡ q
+  test-source-determined r q h k = determined r q h k
+
+  module _ (at : ℕ) where
+    pub scalar-at-determined : (r q : Scalar) → r ≡ scalarAt s at → q ≡ scalarAt s at → r ≡ q
+    scalar-at-determined r q h k = determined r q h k
+
+    pub test-position-determined : (r q : Tested) → r ≡ positionTest s at → q ≡ positionTest s at → r ≡ q
+    test-position-determined r q h k = determined r q h k
+
+    pub next-determined : (r q : Read) → r ≡ nextAt s at → q ≡ nextAt s at → r ≡ q
+    next-determined r q h k = determined r q h k
+
+    pub read-determined : (r q : Read) → r ≡ readAt s at → q ≡ readAt s at → r ≡ q
+    read-determined r q h k = determined r q h k
+
+  module _ (out : List ℕ) where
+    pub list-determined : (r q : Listed) (v w : List ℕ) → (r ≡ listOf s (length out)) × (v ≡ sets out 0 (storedOf s (length out)))
+        → (q ≡ listOf s (length out)) × (w ≡ sets out 0 (storedOf s (length out))) → (r ≡ q) × (v ≡ w)
+    list-determined r q v w h k = determined-both r q v w h k
+
+    pub outline-determined : (r q : Outlined) (v w : List ℕ) → (r ≡ outlineOf s (length out)) × (v ≡ sets out 0 (writtenOf s (length out)))
+        → (q ≡ outlineOf s (length out)) × (w ≡ sets out 0 (writtenOf s (length out))) → (r ≡ q) × (v ≡ w)
+    outline-determined r q v w h k = determined-both r q v w h k
