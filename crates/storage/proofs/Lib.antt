@@ -2,3 +2,4 @@ pub mod Rows
 pub mod Puts
 pub mod StoreRound
 pub mod Example
+pub mod Calls
