@@ -6,10 +6,10 @@ fill('check/check_record', {
     'returns-4': '@faulty4 .ensures ∙ record-empty $a$ $in$ (@if4 .taken)',
     'returns-5': 'record-sound $a$ $in$ (@if3 .left) (@if4 .left)'}, macros=R)
 fits = 'simp length-set (omega arith)'
-fill('records/put_word', {
+fill('put_word', {
     'slice-write-out-2': fits, 'slice-write-out-3': fits, 'slice-write-out-4': fits,
     'returns': 'word-stores (@Start .args .out .now) (@Start .args .at) (@Start .args .w) (@low-byte .ensures) (@low-byte2 .ensures) (@low-byte3 .ensures) (@low-byte4 .ensures)'})
-fill('records/put_record', {
+fill('put_record', {
     'slice-write-out-2': fits, 'slice-write-out-3': fits, 'put-word-requires': fits,
     'put-word-requires-2': 'let k = simp length-set at (@put-word .kept .0) in omega arith',
     'same-length': '@put-word2 .kept .0 ∙ @put-word .kept .0 ∙ simp length-set',
@@ -48,7 +48,7 @@ fill('check/check_bytes', {
 P = {'s': '(@Start .args .list .now)', 'from': '(@loop .from)', 'at': '(@loop .at)', 'l': '(left-3 (length $s$) $from$ (@loop-test .taken) (@loop .inv .whole))',
      'y': 'recordsOf recordIn 11 records-layout wordRow 3', 'w': '$y$ $s$ (@Start .args .out .now) (@loop .out) $from$ $at$ (@loop .inv)'}
 room = 'omega (arith, writes-room $w$ $l$, @loop .inv .same, @Start .good)'
-fill('records/put_records', {
+fill('put_records', {
     'Inv-loop': 'Writes recordsOf wordRow 3 list out₀ out from at', 'μ-loop': 'length list - from',
     'loop-holds': 'writes-first $y$ _ _ (@Start .pre .0) (@Start .pre .1)',
     'mul-put-record': near, 'shared-slice-read-put-record': near, 'add-put-record': near, 'mul-put-record-2': near, 'shared-slice-read-put-record-2': near,
@@ -60,7 +60,7 @@ fill('records/put_records', {
 Q = {'s': '(@Start .args .bytes .now)', 'from': '(@loop .from)', 'at': '(@loop .at)', 'l': '(left-11 (length $s$) $from$ (@loop-test .taken) (@loop .inv .whole))',
      'y': 'listWords tokenWords 3 tokens-layout byteRow 11', 'w': '$y$ $s$ (@Start .args .out .now) (@loop .out) $from$ $at$ (@loop .inv)'}
 wide_room = f'simp length-set ({room})'
-fill('records/put_words', {
+fill('put_words', {
     'Inv-loop': 'Writes listWords byteRow 11 bytes out₀ out from at', 'μ-loop': 'length bytes - from',
     'loop-holds': 'writes-first $y$ _ _ (@Start .pre .0) (@Start .pre .1)',
     'add-wide': near, 'shared-slice-read-wide': near, 'mul-out': room, 'slice-write-out': room, 'add-word-at': near, 'word-at-requires': near,

@@ -1,6 +1,6 @@
 // The first refusal of a token list or of stored bytes, by record, proved equal to the definition.
-use crate::records::wide;
-use crate::records::word_at;
+use crate::wide;
+use crate::word_at;
 use token::Refusal;
 use token::Span;
 use token::refusal::BAD_KIND;

@@ -2,8 +2,8 @@ use native.Mathlib.Omega.{arith}
 use borrow.Author.Needs.{needs}
 use lib.ListN.{length-set}
 use Rattle.storage.proofs.Rows.{word-stores}
-use Rattle.storage.proofs.records.put_word.Statement.{statement}
-use Rattle.storage.proofs.records.put_word.Tie as tie
+use Rattle.storage.proofs.put_word.Statement.{statement}
+use Rattle.storage.proofs.put_word.Tie as tie
 
 low-byte-requires : tie.Need-low-byte-requires
 low-byte-requires c κs = search needs

@@ -6,8 +6,8 @@ use lib.ListN.{length, length-set}
 use Rattle.storage.proofs.Puts.{Writes, tokens-layout, writes-end, writes-first, writes-more, writes-room}
 use Rattle.storage.proofs.Rows.{left-11, token-stores}
 use Rattle.storage.specs.Storage.{byteRow, tokenWords, listWords}
-use Rattle.storage.proofs.records.put_words.Statement.{statement}
-use Rattle.storage.proofs.records.put_words.Tie as tie
+use Rattle.storage.proofs.put_words.Statement.{statement}
+use Rattle.storage.proofs.put_words.Tie as tie
 
 abbrev Inv-loop : tie.InvT-loop
 Inv-loop bytes out₀ from₀ at₀ out from at = Writes listWords byteRow 11 bytes out₀ out from at

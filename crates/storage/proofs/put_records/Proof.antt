@@ -7,8 +7,8 @@ use lib.ListN.{length}
 use Rattle.storage.proofs.Puts.{Writes, list-record, recordIn, records-layout, writes-end, writes-first, writes-more, writes-room}
 use Rattle.storage.proofs.Rows.{left-3}
 use Rattle.storage.specs.Storage.{recordsOf, wordRow}
-use Rattle.storage.proofs.records.put_records.Statement.{statement}
-use Rattle.storage.proofs.records.put_records.Tie as tie
+use Rattle.storage.proofs.put_records.Statement.{statement}
+use Rattle.storage.proofs.put_records.Tie as tie
 
 abbrev Inv-loop : tie.InvT-loop
 Inv-loop list out₀ from₀ at₀ out from at = Writes recordsOf wordRow 3 list out₀ out from at

@@ -3,8 +3,8 @@ use native.Mathlib.Omega.{arith}
 use borrow.Author.Needs.{needs}
 use lib.ListN.{length-set}
 use Rattle.storage.proofs.Rows.{record-stores}
-use Rattle.storage.proofs.records.put_record.Statement.{statement}
-use Rattle.storage.proofs.records.put_record.Tie as tie
+use Rattle.storage.proofs.put_record.Statement.{statement}
+use Rattle.storage.proofs.put_record.Tie as tie
 
 slice-write-out : tie.Need-slice-write-out
 slice-write-out c = search needs
