@@ -105,6 +105,7 @@ class Fills:
 
     def write(self, fn, skeleton):
         text = re.sub(r'^-- src.*\n', '', skeleton, flags=re.M)
+        text = re.sub(r' =\n +\?$', ' = ?', text, flags=re.M)
         if fn.split('/')[-1].startswith('+'):
             return self.write_cycle(fn, text)
         answers, head, macros, pre, lts, uses = self.known[fn]

@@ -10,21 +10,37 @@ fill('same_words', {
 
 N = '(length (@Start .args .s .now))'
 once = f'let h = sym (length-take-le {N} (@outline .last .1 .0) (omega (arith, @outline .kept .1 .0, @if1 .left))) in search needs'
-twice = f'let h = sym (length-take-le {N} (@outline2 .last .1 .0) (omega (arith, @outline2 .kept .1 .0, @if2 .left))) in search needs'
-fill('agrees', {
-    'slice-reshare-prefix-outline': 'omega (arith, @outline .kept .1 .0, @if1 .left)',
-    'slice-aggregate-outline': once, 'slice-aggregate-same': once, 'slice-aggregate-same-2': twice, 'slice-aggregate-lists-alike': once,
-    'slice-reshare-prefix-same': 'omega (arith, @outline .kept .1 .0, @if1 .left)',
-    'slice-reshare-prefix-same-2': 'omega (arith, @outline2 .kept .1 .0, @if2 .left)',
-    'slice-reshare-prefix-lists-alike': 'omega (arith, @outline .kept .1 .0, @if1 .left)',
-    'same-length': '@outline .kept .1 .0', 'same-length-2': '@outline2 .kept .1 .0', 'same-length-3': '@outline .kept .1 .0', 'same-length-4': '@outline2 .kept .1 .0'},
+fill('agrees', {'slice-aggregate-outline': once, 'slice-aggregate-lists-alike': once},
     head='The lent bytes keep their length, and hold a source as long as this one. Assumes nothing.')
 fill('try_one', {'slice-aggregate-part': 'let h = sym (length-take-le (@Start .args .n) (@Start .args .s .now) (@if1 .left)) in search needs'})
-fill('try_all', {
-    'Inv-loop': '(different ≤ turn) × (length s ≡ length s₀) × (length once ≡ length once₀) × (length twice ≡ length twice₀)', 'μ-loop': '300000 - turn',
-    'loop-holds': '(omega arith, refl, refl, refl)',
-    'add-different': 'omega (arith, @try-one .ensures, @loop .inv .0)',
-    'loop-less': 'omega arith',
-    'loop-again': '(omega (arith, @try-one .ensures, @loop .inv .0), @make .kept .0 ∙ @loop .inv .1, @try-one .kept .1 .0 ∙ @loop .inv .2, @try-one .kept .1 .1 .0 ∙ @loop .inv .3)',
-    'same-length': '@loop .inv .1', 'same-length-2': '@loop .inv .2', 'same-length-3': '@loop .inv .3'},
-    head='No more are counted than were tried, and the lent bytes keep their length. Assumes nothing.')
+fill('copy', {
+    'Inv-loop': '(end ≤ length s) × (length s ≡ length s₀)', 'μ-loop': 'left',
+    'loop-holds': '(@Start .pre, refl)',
+    'same-length': '@loop .inv .1', 'same-length-2': '@loop .inv .1', 'same-length-3': '@loop .inv .1',
+    'loop-again': '(simp length-set (omega arith), simp length-set (@loop .inv .1))'},
+    head='The copy ends within the lent bytes, which keep their length. Assumes nothing.')
+fill('sprinkle', {
+    'Inv-loop': '(end ≤ length s) × (length s ≡ length s₀)', 'μ-loop': 'left',
+    'loop-holds': '(@Start .pre, refl)',
+    'same-length': '@loop .inv .1', 'same-length-2': '@loop .inv .1',
+    'loop-again': '(omega (arith, @put .ensures .1, @put .kept .0), @put .kept .0 ∙ @loop .inv .1)'},
+    head='The characters end within the lent bytes, which keep their length. Assumes nothing.')
+fill('below', {'returns': 'mod-lt _ (@Start .pre)'}, uses='use native.Mathlib.Nat.{mod-lt}')
+fill('jump', {'returns-2': 'mod-lt _ (@Start .pre .0)'}, uses='use native.Mathlib.Nat.{mod-lt}')
+fill('damage', {
+    'Inv-loop': '(at < length file) × (end ≤ length s) × (length s ≡ length s₀)', 'μ-loop': 'breaks',
+    'loop-holds': '(@Start .pre .0, omega arith, refl)'},
+    head='A copy ends within the lent bytes, and goes on within the file. Assumes nothing.')
+
+
+def rounds(turns, s, buffer, store):
+    lengths = {'s': s, 'once': buffer, 'twice': buffer, 'words': store, 'others': store}
+    return {
+        'Inv-loop': '(counts .«well_formed» ≤ turn) × (counts .different ≤ turn)' + ''.join(f' × (length {k} ≡ {v})' for k, v in lengths.items()),
+        'μ-loop': f'{turns} - turn',
+        'loop-holds': '(omega arith, omega arith, refl, refl, refl, refl, refl)'}
+
+
+counts = 'No more are counted than were tried, and the arrays keep their length. Assumes nothing.'
+fill('try_random', rounds(300000, 60, 64, 192), head=counts)
+fill('try_damaged', rounds(40000, 4096, 4096, 6144), head=counts)

@@ -1,8 +1,11 @@
-// Demand 3 run beside its proof: random sources over tricky characters are outlined twice and listed, and what the theorems say is tested on each.
+// Demand 3 run beside its proof: random sources over tricky characters, and damaged copies of the rule files on standard input, are
+// outlined twice and listed, and what the theorems say is tested on each.
 use listing::Listed;
+use outline::Outlined;
 use text::Tested;
 use token::Refusal;
-ghost use Prim.Native.Nat.{_≤_, _<_};
+use token::Span;
+ghost use Prim.Native.Nat.{_+_, _≤_, _<_};
 ghost use lib.ListN.{length};
 
 const TRICKY: [u8; 32] = [
@@ -45,6 +48,12 @@ fn next(seed: u64) -> u64
     ensures { λ r. ⌜ r < 2147483647 ⌝ }
 {
     seed % 2147483647 * 48271 % 2147483647
+}
+
+fn least(a: usize, b: usize) -> usize
+    ensures { λ r. ⌜ (r ≤ a) × (r ≤ b) ⌝ }
+{
+    if a < b { a } else { b }
 }
 
 fn put(s: &mut [u8], i: usize, byte: u8) -> usize
@@ -144,70 +153,269 @@ fn same_answer(a: Listed, b: Listed) -> bool {
     }
 }
 
-// Outline and source list alike.
-fn lists_alike(s: &[u8], outlined: &[u8]) -> bool {
-    let mut words = [0u32; 192];
-    let mut others = [0u32; 192];
-    let a = listing::list(s, &mut words);
-    let b = listing::list(outlined, &mut others);
+// Outline and source list alike, and the later words of the two stores stay alike.
+fn lists_alike(s: &[u8], outlined: &[u8], words: &mut [u32], others: &mut [u32]) -> bool {
+    let a = listing::list(s, words);
+    let b = listing::list(outlined, others);
     if !same_answer(a, b) {
         return false;
     }
-    same_words(&words, &others)
+    same_words(words, others)
 }
 
-// Outlining the outline changes nothing.
-fn agrees(s: &[u8], once: &mut [u8], twice: &mut [u8]) -> bool {
+// Outlining the outline changes nothing. The two buffers were alike before, so they are now, also past the source.
+fn agrees(
+    s: &[u8],
+    once: &mut [u8],
+    twice: &mut [u8],
+    words: &mut [u32],
+    others: &mut [u32],
+) -> bool {
     let n = s.len();
     if once.len() < n {
         return false;
     }
-    if twice.len() < n {
-        return false;
-    }
     outline::outline(s, once);
     outline::outline(&once[..n], twice);
-    if !check::same(&once[..n], &twice[..n]) {
+    if !check::same(once, twice) {
         return false;
     }
-    lists_alike(s, &once[..n])
+    lists_alike(s, &once[..n], words, others)
 }
 
-// 1 where the first n bytes of s are a source and do not agree.
-fn try_one(s: &[u8], once: &mut [u8], twice: &mut [u8], n: usize) -> u64
-    ensures { λ r. ⌜ r ≤ 1 ⌝ }
-{
+// An ill-formed source is refused with 2 at its first bad sequence, and the buffer stays as it was: like the other one.
+fn refuses(s: &[u8], once: &mut [u8], twice: &[u8], at: usize) -> bool {
+    let Outlined::Stopped { refusal } = outline::outline(s, once) else {
+        return false;
+    };
+    let expected = Refusal {
+        number: 2,
+        span: Span { start: at, end: at },
+        reached: at,
+    };
+    if !same_refusal(refusal, expected) {
+        return false;
+    }
+    check::same(once, twice)
+}
+
+enum Tried {
+    WellFormed,
+    IllFormed,
+    Different,
+}
+
+// The source is the first n bytes.
+fn try_one(
+    s: &[u8],
+    n: usize,
+    once: &mut [u8],
+    twice: &mut [u8],
+    words: &mut [u32],
+    others: &mut [u32],
+) -> Tried {
     if s.len() < n {
-        return 1;
+        return Tried::Different;
     }
     let part = &s[..n];
-    let Tested::Sound = text::test_source(part) else {
-        return 0;
-    };
-    if agrees(part, once, twice) {
-        return 0;
+    match text::test_source(part) {
+        Tested::Sound => {
+            if agrees(part, once, twice, words, others) {
+                return Tried::WellFormed;
+            }
+            Tried::Different
+        }
+        Tested::IllFormed { at } => {
+            if refuses(part, once, twice, at) {
+                return Tried::IllFormed;
+            }
+            Tried::Different
+        }
+        Tested::TooLong => Tried::Different,
+        Tested::Misplaced { at: _ } => Tried::Different,
     }
-    1
 }
 
-fn try_all(s: &mut [u8], once: &mut [u8], twice: &mut [u8]) -> u64 {
+struct Counts {
+    well_formed: u64,
+    different: u64,
+}
+
+fn counted(counts: Counts, tried: Tried) -> Counts
+    requires { ⌜ (counts .«well_formed» < 1000000) × (counts .different < 1000000) ⌝ }
+    ensures { λ r. ⌜ (r .«well_formed» ≤ counts .«well_formed» + 1) × (r .different ≤ counts .different + 1) ⌝ }
+{
+    match tried {
+        Tried::WellFormed => Counts {
+            well_formed: counts.well_formed + 1,
+            different: counts.different,
+        },
+        Tried::IllFormed => counts,
+        Tried::Different => Counts {
+            well_formed: counts.well_formed,
+            different: counts.different + 1,
+        },
+    }
+}
+
+fn try_random() -> Counts {
+    let mut s = [0u8; 60];
+    let mut once = [0u8; 64];
+    let mut twice = [0u8; 64];
+    let mut words = [0u32; 192];
+    let mut others = [0u32; 192];
+    let mut counts = Counts {
+        well_formed: 0,
+        different: 0,
+    };
     let mut seed: u64 = 1;
-    let mut different: u64 = 0;
     let mut turn: u64 = 0;
     while turn < 300000 {
-        seed = make(s, seed);
-        different = different + try_one(s, once, twice, (turn % 60) as usize);
+        seed = make(&mut s, seed);
+        let n = (turn % 60) as usize;
+        let tried = try_one(&s, n, &mut once, &mut twice, &mut words, &mut others);
+        counts = counted(counts, tried);
         turn = turn + 1;
     }
-    different
+    counts
+}
+
+// Bytes of the file from a place on, at most so many, as far as there is room; where they end.
+fn copy(file: &[u8], at: usize, count: usize, s: &mut [u8], begun: usize) -> usize
+    requires { ⌜ begun ≤ length (now s) ⌝ }
+    ensures { λ r. ⌜ r ≤ length (now (s .entry)) ⌝ }
+{
+    let mut from = at;
+    let mut end = begun;
+    let mut left = count;
+    while left > 0 {
+        if file.len() <= from {
+            return end;
+        }
+        if s.len() <= end {
+            return end;
+        }
+        s[end] = file[from];
+        from = from + 1;
+        end = end + 1;
+        left = left - 1;
+    }
+    end
+}
+
+// Up to three characters of the table.
+fn sprinkle(s: &mut [u8], begun: usize, seed: u64) -> usize
+    requires { ⌜ begun ≤ length (now s) ⌝ }
+    ensures { λ r. ⌜ r ≤ length (now (s .entry)) ⌝ }
+{
+    let mut end = begun;
+    let mut from = seed / 4;
+    let mut left = seed % 4;
+    while left > 0 {
+        if s.len() <= end {
+            return end;
+        }
+        let at = (from % 32) as usize;
+        let byte = TRICKY[at];
+        end = put(s, end, byte);
+        from = from / 32;
+        left = left - 1;
+    }
+    end
+}
+
+fn below(seed: u64, n: usize) -> usize
+    requires { ⌜ 0 < n ⌝ }
+    ensures { λ r. ⌜ r < n ⌝ }
+{
+    seed as usize % n
+}
+
+// Where copying goes on in a file of n bytes: one time in four anywhere, else within 8 bytes of where it stopped.
+fn jump(stopped: usize, seed: u64, n: usize) -> usize
+    requires { ⌜ (0 < n) × (n ≤ 4096) × (stopped ≤ 8192) ⌝ }
+    ensures { λ r. ⌜ r < n ⌝ }
+{
+    if seed % 4 == 0 {
+        return below(seed / 4, n);
+    }
+    (stopped + n + below(seed / 4, 16) - least(n, 8)) % n
+}
+
+struct Damaged {
+    seed: u64,
+    length: usize,
+}
+
+// A copy whose runs are broken one to four times by characters of the table and by a jump: what the jump passes over is deleted or overwritten,
+// what it goes back over is doubled. One copy in four is cut at the last break.
+fn damage(file: &[u8], s: &mut [u8], begun: u64) -> Damaged
+    requires { ⌜ (0 < length (now file)) × (length (now file) ≤ 4096) ⌝ }
+    ensures { λ r. ⌜ r .length ≤ length (now (s .entry)) ⌝ }
+{
+    let n = file.len();
+    let mut seed = next(begun);
+    let cut = seed % 4 == 0;
+    let mut breaks = 1 + seed / 4 % 4;
+    let mut at: usize = 0;
+    let mut end: usize = 0;
+    while breaks > 0 {
+        seed = next(seed);
+        let run = below(seed, n);
+        end = copy(file, at, run, s, end);
+        seed = next(seed);
+        end = sprinkle(s, end, seed);
+        seed = next(seed);
+        at = jump(at + run, seed, n);
+        breaks = breaks - 1;
+    }
+    if !cut {
+        end = copy(file, at, n, s, end);
+    }
+    Damaged { seed, length: end }
+}
+
+fn try_damaged(file: &[u8]) -> Counts
+    requires { ⌜ (0 < length (now file)) × (length (now file) ≤ 4096) ⌝ }
+{
+    let mut s = [0u8; 4096];
+    let mut once = [0u8; 4096];
+    let mut twice = [0u8; 4096];
+    let mut words = [0u32; 6144];
+    let mut others = [0u32; 6144];
+    let mut counts = Counts {
+        well_formed: 0,
+        different: 0,
+    };
+    let mut seed: u64 = 1;
+    let mut turn: u64 = 0;
+    while turn < 40000 {
+        let damaged = damage(file, &mut s, seed);
+        seed = damaged.seed;
+        let n = damaged.length;
+        let tried = try_one(&s, n, &mut once, &mut twice, &mut words, &mut others);
+        counts = counted(counts, tried);
+        turn = turn + 1;
+    }
+    counts
+}
+
+fn print(counts: Counts) {
+    io::write_all(1, b"well-formed ");
+    io::print_decimal(1, counts.well_formed);
+    io::write_all(1, b"\ndifferent ");
+    io::print_decimal(1, counts.different);
+    io::write_all(1, b"\n");
 }
 
 fn main() {
-    let mut s = [0u8; 64];
-    let mut once = [0u8; 64];
-    let mut twice = [0u8; 64];
-    let different = try_all(&mut s, &mut once, &mut twice);
-    io::write_all(1, b"sources 300000\ndifferent ");
-    io::print_decimal(1, different);
-    io::write_all(1, b"\n");
+    io::write_all(1, b"sources 300000\n");
+    print(try_random());
+    let mut file = [0u8; 4096];
+    let got = io::read_full(0, &mut file);
+    if got == 0 {
+        return;
+    }
+    io::write_all(1, b"damaged 40000\n");
+    print(try_damaged(&file[..got]));
 }
