@@ -26,6 +26,7 @@ FIXED = {
     'borrow.Author.Needs': 'needs',
     'borrow.Author.Count': 'below-none below-more',
     'lib.Dec': 'T leb ltb eqb',
+    'denote.Ref': 'RefT',
 }
 LIBS = {'lib.Seq': 'logic/Lib/Seq.antt', 'lib.ListN': 'logic/Lib/ListN.antt', 'borrow.Author.Tests': 'logic/Borrow/Author/Tests.antt'}
 
@@ -136,6 +137,8 @@ def place(path):
 
 
 def rewrite_antt(path):
+    if 'use denote.Triple.' in open(path).read():  # a walk by hand: the logic's names are not indexed here
+        return
     crate, kind, me = place(path)
     lines = open(path).read().split('\n')
     head = []

@@ -1,0 +1,29 @@
+-- Any two results that a call's promise allows are equal. Assumes nothing.
+use Prim.Native.Nat.{ℕ}
+use mathlib.Core.Path.{_≡_}
+use mathlib.Core.List.{List}
+use denote.Ref.{RefT}
+use Rattle.laws.proofs.Determined.{determined}
+use Rattle.source.specs.Reader.{movedOf, newOf, nextOf, peek2Of, peekOf, posOf, stepAt}
+use Rattle.source.specs.declared.Source.{Source}
+use Rattle.source.specs.declared.Step.{Step}
+use Rattle.text.specs.declared.utf8.Scalar.{Scalar}
+
+pub new-determined : (s : RefT (List ℕ)) (r q : Source) → r ≡ newOf s → q ≡ newOf s → r ≡ q
+new-determined s r q h k = determined r q h k
+
+module _ (it : Source) where
+  pub pos-determined : (r q : ℕ) → r ≡ posOf it → q ≡ posOf it → r ≡ q
+  pos-determined r q h k = determined r q h k
+
+  pub peek-determined : (r q : Scalar) → r ≡ peekOf it → q ≡ peekOf it → r ≡ q
+  peek-determined r q h k = determined r q h k
+
+  pub peek2-determined : (r q : Scalar) → r ≡ peek2Of it → q ≡ peek2Of it → r ≡ q
+  peek2-determined r q h k = determined r q h k
+
+  pub next-determined : (r q : Scalar) (v w : Source) → (v ≡ movedOf it) × (r ≡ nextOf it) → (w ≡ movedOf it) × (q ≡ nextOf it) → (v ≡ w) × (r ≡ q)
+  next-determined r q v w h k = (determined v w (h .0) (k .0), determined r q (h .1) (k .1))
+
+pub next-from-determined : (s : List ℕ) (at : ℕ) (r q : Step) → r ≡ stepAt s at → q ≡ stepAt s at → r ≡ q
+next-from-determined s at r q h k = determined r q h k
