@@ -10,9 +10,16 @@ fill('same_words', {
 
 N = '(length (@Start .args .s .now))'
 once = f'let h = sym (length-take-le {N} (@outline .last .1 .0) (omega (arith, @outline .kept .1 .0, @if1 .left))) in search needs'
-fill('agrees', {'slice-aggregate-outline': once, 'slice-aggregate-lists-alike': once},
+fill('agrees', {
+    'slice-aggregate-outline': once, 'slice-aggregate-lists-alike': once,
+    'same-length': '@outline .kept .1 .0', 'same-length-2': '@outline2 .kept .1 .0',
+    'same-length-3': '@outline .kept .1 .0', 'same-length-4': '@outline2 .kept .1 .0',
+    'same-length-5': '@lists-alike .kept .1 .1 .0', 'same-length-6': '@lists-alike .kept .1 .1 .1 .0'},
     head='The lent bytes keep their length, and hold a source as long as this one. Assumes nothing.')
-fill('try_one', {'slice-aggregate-part': 'let h = sym (length-take-le (@Start .args .n) (@Start .args .s .now) (@if1 .left)) in search needs'})
+KEPT = [f'@agrees .kept .1{" .1" * i} .0' for i in range(4)] + ['@refuses .kept .1 .0', 'refl']
+fill('try_one', {
+    'slice-aggregate-part': 'let h = sym (length-take-le (@Start .args .n) (@Start .args .s .now) (@if1 .left)) in search needs',
+    **{'same-length' + (f'-{i + 1}' if i else ''): KEPT[i % 6] for i in range(12)}})
 fill('copy', {
     'Inv-loop': '(end ≤ length s) × (length s ≡ length s₀)', 'μ-loop': 'left',
     'loop-holds': '(@Start .pre, refl)',

@@ -26,10 +26,10 @@ same-requires : tie.Need-same-requires
 same-requires c κs = search needs
 
 same-length : tie.Need-same-length
-same-length c = search needs
+same-length c = c .before .before .before .before .before .before .before .before .before .before .before .outline .kept .1 .0
 
 same-length-2 : tie.Need-same-length-2
-same-length-2 c = search needs
+same-length-2 c = c .before .before .before .before .before .before .outline2 .kept .1 .0
 
 returns-2 : tie.Need-returns-2
 returns-2 c = search needs
@@ -44,16 +44,16 @@ lists-alike-requires : tie.Need-lists-alike-requires
 lists-alike-requires c κs = search needs
 
 same-length-3 : tie.Need-same-length-3
-same-length-3 c = search needs
+same-length-3 c = c .before .before .before .before .before .before .before .before .before .before .before .before .before .before .before .before .before .before .before .outline .kept .1 .0
 
 same-length-4 : tie.Need-same-length-4
-same-length-4 c = search needs
+same-length-4 c = c .before .before .before .before .before .before .before .before .before .before .before .before .before .before .outline2 .kept .1 .0
 
 same-length-5 : tie.Need-same-length-5
-same-length-5 c = search needs
+same-length-5 c = c .before .before .before .before .lists-alike .kept .1 .1 .0
 
 same-length-6 : tie.Need-same-length-6
-same-length-6 c = search needs
+same-length-6 c = c .before .before .before .before .lists-alike .kept .1 .1 .1 .0
 
 returns-3 : tie.Need-returns-3
 returns-3 c = search needs
