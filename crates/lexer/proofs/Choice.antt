@@ -10,11 +10,11 @@ use Rattle.laws.proofs.Cases.{both-false, split}
 use Rattle.laws.specs.Bools.{both, pick}
 use Rattle.laws.specs.Tables.{inRanges}
 use Rattle.lexer.specs.Rule.{Deep, behindOne, firstOf, foundOr, leftOf, nextIs, noTemplate, otherOf}
-use Rattle.readers.specs.Operators.{findOne, findThree, findTwo, lookOne, lookThree, lookTwo, ones, operatorOf, threes, twos}
+use Rattle.operators.specs.Operators.{findOne, findThree, findTwo, lookOne, lookThree, lookTwo, ones, operatorOf, threes, twos}
+use Rattle.operators.specs.declared.Operator.{Operator}
+use Rattle.operators.specs.declared.Operator.the-variants.{Found, Nothing}
 use Rattle.readers.specs.Readers.{byteOf, charOf, commentOf, lineOf, numberLitOf, startsWord, strOf, whiteOf, wordOf}
 use Rattle.readers.specs.Rules.{Rules, base}
-use Rattle.readers.specs.declared.operators.Operator.{Operator}
-use Rattle.readers.specs.declared.operators.Operator.the-variants.{Found, Nothing}
 use Rattle.text.proofs.Decode.{Step}
 use Rattle.text.specs.Utf8.{rest}
 use Rattle.token.specs.Reads.{gotOf, refusedOf}

@@ -5,11 +5,11 @@ use mathlib.Core.Bool.{Bool, true, false}
 use lib.Dec.{eqb}
 use Rattle.classes.specs.Classes.{isDigit, isWhiteSpace}
 use Rattle.laws.specs.Bools.{both, pick}
-use Rattle.readers.specs.Operators.{operatorOf}
+use Rattle.operators.specs.Operators.{operatorOf}
+use Rattle.operators.specs.declared.Operator.{Operator}
+use Rattle.operators.specs.declared.Operator.the-variants.{Found, Nothing}
 use Rattle.readers.specs.Readers.{byteOf, charOf, commentOf, lineOf, numberLitOf, startsWord, strOf, whiteOf, wordOf}
 use Rattle.readers.specs.Rules.{Rules}
-use Rattle.readers.specs.declared.operators.Operator.{Operator}
-use Rattle.readers.specs.declared.operators.Operator.the-variants.{Found, Nothing}
 use Rattle.token.specs.Reads.{gotOf, refusedOf}
 use Rattle.token.specs.declared.kind.Kind.the-variants.{Comment, Eof}
 use Rattle.token.specs.declared.read.Read.{Read}

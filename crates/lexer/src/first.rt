@@ -1,5 +1,5 @@
 // Every rule but the template's. The scalar read first stands at `start` and ends at `at`.
-use readers::Operator;
+use operators::Operator;
 use text::Scalar;
 use token::Kind;
 use token::Read;
@@ -30,7 +30,7 @@ fn read_left(s: &[u8], value: u32, start: usize, at: usize) -> Read
 fn read_other(s: &[u8], value: u32, start: usize, at: usize) -> Read
     ensures { λ r. ⌜ r ≡ otherOf base noTemplate value start (rest (now (s .entry)) at) at ⌝ }
 {
-    let Operator::Found { kind, end } = readers::next_operator(s, value, at) else {
+    let Operator::Found { kind, end } = operators::next_operator(s, value, at) else {
         return read_left(s, value, start, at);
     };
     token::got(kind, start, end)

@@ -1,8 +1,8 @@
 use mathlib.Core.Path.{sym, ap}
 use borrow.Author.Tests.{ne-eqb}
-use Rattle.readers.specs.Operators.{lookOne, ones}
-use Rattle.readers.proofs.operators.single_of.Statement.{statement}
-use Rattle.readers.proofs.operators.single_of.Tie as tie
+use Rattle.operators.specs.Operators.{lookOne, ones}
+use Rattle.operators.proofs.single_of.Statement.{statement}
+use Rattle.operators.proofs.single_of.Tie as tie
 
 returns : tie.Need-returns
 unfolding lookOne ones

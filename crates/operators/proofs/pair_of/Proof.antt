@@ -2,9 +2,9 @@ use Prim.Native.Nat.{ℕ}
 use mathlib.Core.Path.{sym, ap, _∙_}
 use borrow.Author.Needs.{needs}
 use borrow.Author.Tests.{ne-eqb}
-use Rattle.readers.specs.Operators.{lookTwo, twos}
-use Rattle.readers.proofs.operators.pair_of.Statement.{statement}
-use Rattle.readers.proofs.operators.pair_of.Tie as tie
+use Rattle.operators.specs.Operators.{lookTwo, twos}
+use Rattle.operators.proofs.pair_of.Statement.{statement}
+use Rattle.operators.proofs.pair_of.Tie as tie
 
 if-is-requires : tie.Need-if-is-requires
 if-is-requires c κs = search needs

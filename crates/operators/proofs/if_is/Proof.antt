@@ -1,6 +1,6 @@
 use borrow.Author.Tests.{eq-eqb, ne-eqb}
-use Rattle.readers.proofs.operators.if_is.Statement.{statement}
-use Rattle.readers.proofs.operators.if_is.Tie as tie
+use Rattle.operators.proofs.if_is.Statement.{statement}
+use Rattle.operators.proofs.if_is.Tie as tie
 
 returns : tie.Need-returns
 returns c = simp (eq-eqb _ _ (c .if1 .taken))

@@ -6,9 +6,9 @@ use token::Known;
 ghost use mathlib.Core.Path.{_≡_};
 ghost use lib.Dec.{eqb};
 ghost use Rattle.laws.specs.Bools.{pick};
-ghost use Rattle.readers.specs.Operators.{findOne, lookOne, lookThree, lookTwo, ones, operatorOf, threes, twos};
+ghost use Rattle.operators.specs.Operators.{findOne, lookOne, lookThree, lookTwo, ones, operatorOf, threes, twos};
+ghost use Rattle.operators.specs.declared.Operator.the-variants.{Found};
 ghost use Rattle.readers.specs.Rules.{base};
-ghost use Rattle.readers.specs.declared.operators.Operator.the-variants.{Found};
 ghost use Rattle.text.specs.Utf8.{first, rest};
 ghost use Rattle.token.specs.declared.kind.Known.the-variants.{Is, Unknown};
 

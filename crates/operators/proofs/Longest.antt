@@ -7,9 +7,9 @@ use lib.Dec.{eqb}
 use borrow.Author.Tests.{ne-eqb}
 use Rattle.laws.proofs.Cases.{both-false, never, split-eq}
 use Rattle.laws.specs.Bools.{both}
-use Rattle.readers.specs.Operators.{findOne, findThree, findTwo, lookThree, lookTwo, operatorOf, threes, twos}
+use Rattle.operators.specs.Operators.{findOne, findThree, findTwo, lookThree, lookTwo, operatorOf, threes, twos}
+use Rattle.operators.specs.declared.Operator.the-variants.{Found, Nothing}
 use Rattle.readers.specs.Rules.{base}
-use Rattle.readers.specs.declared.operators.Operator.the-variants.{Found, Nothing}
 use Rattle.text.proofs.Decode.{Step}
 use Rattle.text.specs.Utf8.{rest, width}
 use Rattle.token.specs.declared.kind.Kind.{Kind}

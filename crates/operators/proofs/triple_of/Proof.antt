@@ -1,9 +1,9 @@
 use borrow.Author.Needs.{needs}
 use borrow.Author.Tests.{ne-eqb}
 use Rattle.laws.proofs.Cases.{both-false, both-true}
-use Rattle.readers.specs.Operators.{lookThree, threes}
-use Rattle.readers.proofs.operators.triple_of.Statement.{statement}
-use Rattle.readers.proofs.operators.triple_of.Tie as tie
+use Rattle.operators.specs.Operators.{lookThree, threes}
+use Rattle.operators.proofs.triple_of.Statement.{statement}
+use Rattle.operators.proofs.triple_of.Tie as tie
 
 returns : tie.Need-returns
 unfolding lookThree threes

@@ -1,9 +1,9 @@
 use mathlib.Core.Path.{sym, _∙_}
 use borrow.Author.Needs.{needs}
-use Rattle.readers.proofs.Longest.{op-end, op-one, op-three, op-two, op-two-end}
+use Rattle.operators.proofs.Longest.{op-end, op-one, op-three, op-two, op-two-end}
 use Rattle.text.proofs.Decode.{step-none, step-one}
-use Rattle.readers.proofs.operators.next_operator.Statement.{statement}
-use Rattle.readers.proofs.operators.next_operator.Tie as tie
+use Rattle.operators.proofs.next_operator.Statement.{statement}
+use Rattle.operators.proofs.next_operator.Tie as tie
 
 scalar-at-requires : tie.Need-scalar-at-requires
 scalar-at-requires c κs = search needs

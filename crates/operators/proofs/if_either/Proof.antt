@@ -1,7 +1,7 @@
 use borrow.Author.Needs.{needs}
 use borrow.Author.Tests.{eq-eqb, ne-eqb}
-use Rattle.readers.proofs.operators.if_either.Statement.{statement}
-use Rattle.readers.proofs.operators.if_either.Tie as tie
+use Rattle.operators.proofs.if_either.Statement.{statement}
+use Rattle.operators.proofs.if_either.Tie as tie
 
 if-is-requires : tie.Need-if-is-requires
 if-is-requires c κs = search needs

@@ -3,9 +3,9 @@ use Prim.Native.Nat.{ℕ, _+_}
 use mathlib.Core.List.{List, [], _∷_}
 use lib.Dec.{eqb}
 use Rattle.laws.specs.Bools.{both, pick}
+use Rattle.operators.specs.declared.Operator.{Operator}
+use Rattle.operators.specs.declared.Operator.the-variants.{Found, Nothing}
 use Rattle.readers.specs.Rules.{Rules}
-use Rattle.readers.specs.declared.operators.Operator.{Operator}
-use Rattle.readers.specs.declared.operators.Operator.the-variants.{Found, Nothing}
 use Rattle.token.specs.declared.kind.Bracket.the-variants.{Curly, Round, Square}
 use Rattle.token.specs.declared.kind.Kind.{Kind}
 use Rattle.token.specs.declared.kind.Kind.the-variants.{Amp, AmpAmp, AmpEq, Arrow, At, Bang, BangEq, Caret, CaretEq, Close, Colon, ColonColon, Comma, Dash, DashEq, Div, Dollar, Dot, DotDot, DotDotEq, Eq, EqEq, Gt, GtEq, GtGt, GtGtEq, Lt, LtEq, LtLt, LtLtEq, Open, Perc, PercEq, Pipe, PipeEq, PipePipe, Plus, PlusEq, Pound, QuestionMark, Rocket, SemiColon, SlashEq, Star, StarEq, Tilde}

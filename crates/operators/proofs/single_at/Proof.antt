@@ -1,8 +1,8 @@
 use mathlib.Core.Path.{sym, _∙_}
 use borrow.Author.Needs.{needs}
-use Rattle.readers.specs.Operators.{findOne}
-use Rattle.readers.proofs.operators.single_at.Statement.{statement}
-use Rattle.readers.proofs.operators.single_at.Tie as tie
+use Rattle.operators.specs.Operators.{findOne}
+use Rattle.operators.proofs.single_at.Statement.{statement}
+use Rattle.operators.proofs.single_at.Tie as tie
 
 single-of-requires : tie.Need-single-of-requires
 single-of-requires c κs = search needs
