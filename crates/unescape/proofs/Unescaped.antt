@@ -31,8 +31,8 @@ use Rattle.unescape.specs.Bodies.{Body, Ending, Result, also, bodyOf, fa
 use Rattle.unescape.specs.declared.body.Form.{Form}
 use Rattle.unescape.specs.declared.body.Unescaped.{Unescaped}
 use Rattle.unescape.specs.declared.body.Unescaped.the-variants.{Refused, Wrote}
-use Rattle.unescape.specs.declared.escape.Escape.{Escape}
-use Rattle.unescape.specs.declared.escape.Escape.the-variants.{Bad, Item, Skipped}
+use Rattle.escapes.specs.declared.Escape.{Escape}
+use Rattle.escapes.specs.declared.Escape.the-variants.{Bad, Item, Skipped}
 
 -- the items of a body are scalars, or bytes by the form, and take no more bytes than what they were read from
 pub record Sizes (form : Form) (b : Body) (start end : ℕ) : Type 0 where
