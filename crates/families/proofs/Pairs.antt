@@ -9,7 +9,7 @@ use Rattle.classes.specs.Classes.{isDigit, isWhiteSpace}
 use Rattle.laws.proofs.Cases.{both-inv, split}
 use Rattle.laws.specs.Bools.{both, pick}
 use Rattle.lexer.specs.Body.{down, goOn, turnOf, up}
-use Rattle.lexer.specs.Rule.{Deep, behindOne, firstOf, foundOr, leftOf, nextIs, otherOf}
+use Rattle.choice.specs.Rule.{Deep, behindOne, firstOf, foundOr, leftOf, nextIs, otherOf}
 use Rattle.operators.specs.Operators.{operatorOf}
 use Rattle.operators.specs.declared.Operator.{Operator}
 use Rattle.operators.specs.declared.Operator.the-variants.{Found, Nothing}

@@ -15,7 +15,7 @@ use Rattle.laws.specs.Bools.{both, pick}
 use Rattle.lexer.proofs.Landing.{deepOf, with-deep}
 use Rattle.lexer.specs.Body.{bodyOf, templateOf, tokenOf}
 use Rattle.lexer.specs.Next.{closeSpan, isShebang, nextOf, shebangOf}
-use Rattle.lexer.specs.Rule.{Deep, behindOne, firstOf, nextIs, tokenWith}
+use Rattle.choice.specs.Rule.{Deep, behindOne, firstOf, nextIs, tokenWith}
 use Rattle.numbers.specs.Kinds.{hasInside, numberOf}
 use Rattle.operators.proofs.Ends.{by-length}
 use Rattle.operators.specs.Operators.{findOne, findThree, findTwo, foundAt, lookOne, lookThree, lookTwo, ones, operatorOf, threes, twos}

@@ -8,9 +8,9 @@ use native.Mathlib.Omega.{arith}
 use lib.Dec.{ltb, eqb}
 use borrow.Author.Tests.{le-ltb, lt-ltb}
 use Rattle.laws.proofs.Cases.{split}
-use Rattle.lexer.proofs.Choice.{first-cases}
+use Rattle.choice.proofs.Choice.{first-cases}
 use Rattle.lexer.specs.Body.{bodyOf, down, goOn, templateOf, tokenOf, tooDeep, turnOf, up}
-use Rattle.lexer.specs.Rule.{Deep, behindOne, firstOf, tokenWith}
+use Rattle.choice.specs.Rule.{Deep, behindOne, firstOf, tokenWith}
 use Rattle.operators.proofs.Ends.{operator-lands}
 use Rattle.readers.proofs.Lands.{Lands, byte-lands, char-lands, comment-lands, lands-here, lands-le, line-lands, number-lands, str-lands, white-lands, word-lands}
 use Rattle.readers.specs.Readers.{byteOf, commentOf, lineOf, strOf}

@@ -6,7 +6,7 @@ use lib.Dec.{eqb}
 use lib.ListN.{length}
 use Rattle.laws.specs.Bools.{both, pick}
 use Rattle.lexer.specs.Body.{tokenOf}
-use Rattle.lexer.specs.Rule.{behindOne, nextIs}
+use Rattle.choice.specs.Rule.{behindOne, nextIs}
 use Rattle.readers.specs.Readers.{lineOf}
 use Rattle.readers.specs.Rules.{Rules, base}
 use Rattle.text.specs.Source.{positionTest}

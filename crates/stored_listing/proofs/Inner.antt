@@ -8,11 +8,11 @@ use lib.ListN.{length}
 use Rattle.families.proofs.Pairs.{turn-both}
 use Rattle.laws.proofs.Cases.{both-inv, never, split}
 use Rattle.laws.specs.Bools.{both, pick}
-use Rattle.lexer.proofs.Choice.{first-cases}
+use Rattle.choice.proofs.Choice.{first-cases}
 use Rattle.lexer.proofs.Landing.{deepOf, with-deep}
 use Rattle.lexer.specs.Body.{bodyOf, goOn, templateOf, tokenOf}
 use Rattle.lexer.specs.Next.{closeSpan, isShebang, nextOf}
-use Rattle.lexer.specs.Rule.{Deep, behindOne, firstOf, tokenWith}
+use Rattle.choice.specs.Rule.{Deep, behindOne, firstOf, tokenWith}
 use Rattle.numbers.specs.Kinds.{numberOf}
 use Rattle.operators.proofs.Ends.{by-length}
 use Rattle.operators.specs.Operators.{findOne, findThree, findTwo, foundAt, lookOne, lookThree, lookTwo, ones, operatorOf, threes, twos}

@@ -1,14 +1,14 @@
 use mathlib.Core.Path.{sym, ap, _∙_}
 use borrow.Author.Needs.{needs}
-use Rattle.lexer.proofs.Choice.{slash-comment, slash-end, slash-line, slash-other}
-use Rattle.lexer.specs.Rule.{noTemplate}
+use Rattle.choice.proofs.Choice.{slash-comment, slash-end, slash-line, slash-other}
+use Rattle.choice.specs.Rule.{noTemplate}
 use Rattle.readers.specs.Readers.{lineOf}
 use Rattle.text.proofs.Decode.{step-none, step-one}
 use Rattle.text.specs.Utf8.{first}
 use Rattle.token.specs.Reads.{gotOf}
 use Rattle.token.specs.declared.kind.Kind.the-variants.{Comment}
-use Rattle.lexer.proofs.first.read_slash.Statement.{statement}
-use Rattle.lexer.proofs.first.read_slash.Tie as tie
+use Rattle.choice.proofs.read_slash.Statement.{statement}
+use Rattle.choice.proofs.read_slash.Tie as tie
 
 scalar-at-requires : tie.Need-scalar-at-requires
 scalar-at-requires c κs = search needs

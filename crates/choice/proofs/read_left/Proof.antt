@@ -1,10 +1,10 @@
 use mathlib.Core.Path.{sym, _∙_}
 use borrow.Author.Needs.{needs}
-use Rattle.lexer.proofs.Choice.{left-char, left-low, left-none, left-number, left-word}
-use Rattle.lexer.specs.Rule.{noTemplate}
+use Rattle.choice.proofs.Choice.{left-char, left-low, left-none, left-number, left-word}
+use Rattle.choice.specs.Rule.{noTemplate}
 use Rattle.text.specs.Utf8.{first, rest}
-use Rattle.lexer.proofs.first.read_left.Statement.{statement}
-use Rattle.lexer.proofs.first.read_left.Tie as tie
+use Rattle.choice.proofs.read_left.Statement.{statement}
+use Rattle.choice.proofs.read_left.Tie as tie
 
 next-ident-requires : tie.Need-next-ident-requires
 next-ident-requires c κs = search needs

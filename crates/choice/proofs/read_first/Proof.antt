@@ -1,15 +1,15 @@
 use Prim.Native.Nat.{ℕ}
 use mathlib.Core.Path.{sym, ap, _∙_}
 use borrow.Author.Needs.{needs}
-use Rattle.lexer.proofs.Choice.{first-other, first-str, first-white}
-use Rattle.lexer.specs.Rule.{firstOf, noTemplate}
+use Rattle.choice.proofs.Choice.{first-other, first-str, first-white}
+use Rattle.choice.specs.Rule.{firstOf, noTemplate}
 use Rattle.readers.specs.Readers.{whiteOf}
 use Rattle.readers.specs.Rules.{base}
 use Rattle.text.specs.Utf8.{first, rest}
 use Rattle.token.specs.Reads.{gotOf}
 use Rattle.token.specs.declared.kind.Kind.the-variants.{Whitespace}
-use Rattle.lexer.proofs.first.read_first.Statement.{statement}
-use Rattle.lexer.proofs.first.read_first.Tie as tie
+use Rattle.choice.proofs.read_first.Statement.{statement}
+use Rattle.choice.proofs.read_first.Tie as tie
 
 is-whitespace-requires : tie.Need-is-whitespace-requires
 is-whitespace-requires c κs = search needs

@@ -4,7 +4,7 @@ use text::Scalar;
 use token::Kind;
 use token::Read;
 ghost use mathlib.Core.Path.{_≡_};
-ghost use Rattle.lexer.specs.Rule.{firstOf, leftOf, noTemplate, otherOf};
+ghost use Rattle.choice.specs.Rule.{firstOf, leftOf, noTemplate, otherOf};
 ghost use Rattle.readers.specs.Rules.{base};
 ghost use Rattle.text.specs.Utf8.{rest};
 

@@ -1,10 +1,10 @@
 use mathlib.Core.Path.{sym, _∙_}
 use borrow.Author.Needs.{needs}
-use Rattle.lexer.proofs.Choice.{other-found, other-left}
-use Rattle.lexer.specs.Rule.{noTemplate}
+use Rattle.choice.proofs.Choice.{other-found, other-left}
+use Rattle.choice.specs.Rule.{noTemplate}
 use Rattle.text.specs.Utf8.{first, rest}
-use Rattle.lexer.proofs.first.read_other.Statement.{statement}
-use Rattle.lexer.proofs.first.read_other.Tie as tie
+use Rattle.choice.proofs.read_other.Statement.{statement}
+use Rattle.choice.proofs.read_other.Tie as tie
 
 next-operator-requires : tie.Need-next-operator-requires
 next-operator-requires c κs = search needs

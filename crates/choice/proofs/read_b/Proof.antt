@@ -1,11 +1,11 @@
 use mathlib.Core.Path.{sym, _∙_}
 use borrow.Author.Needs.{needs}
-use Rattle.lexer.proofs.Choice.{b-byte, b-end, b-other, b-str}
-use Rattle.lexer.specs.Rule.{noTemplate}
+use Rattle.choice.proofs.Choice.{b-byte, b-end, b-other, b-str}
+use Rattle.choice.specs.Rule.{noTemplate}
 use Rattle.text.proofs.Decode.{step-none, step-one}
 use Rattle.text.specs.Utf8.{first}
-use Rattle.lexer.proofs.first.read_b.Statement.{statement}
-use Rattle.lexer.proofs.first.read_b.Tie as tie
+use Rattle.choice.proofs.read_b.Statement.{statement}
+use Rattle.choice.proofs.read_b.Tie as tie
 
 scalar-at-requires : tie.Need-scalar-at-requires
 scalar-at-requires c κs = search needs
