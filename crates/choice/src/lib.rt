@@ -13,13 +13,13 @@ fn read_left(s: &[u8], value: u32, start: usize, at: usize) -> Read
     ensures { λ r. ⌜ r ≡ leftOf base noTemplate value start (rest (now (s .entry)) at) at ⌝ }
 {
     if value == 95 {
-        return readers::next_ident(s, value, start, at);
+        return words::next_ident(s, value, start, at);
     }
     if classes::is_xid_start(value) {
-        return readers::next_ident(s, value, start, at);
+        return words::next_ident(s, value, start, at);
     }
     if classes::is_ascii_digit(value) {
-        return readers::next_number_literal(s, start, at);
+        return words::next_number_literal(s, start, at);
     }
     if value == 39 {
         return quotes::next_char_or_label(s, start, at);

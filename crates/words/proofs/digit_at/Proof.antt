@@ -1,9 +1,9 @@
 use mathlib.Core.Path.{sym, ap, _∙_}
 use borrow.Author.Needs.{needs}
 use Rattle.readers.specs.Readers.{beginsDigit}
 use Rattle.text.proofs.Decode.{step-none, step-one}
-use Rattle.readers.proofs.words.digit_at.Statement.{statement}
-use Rattle.readers.proofs.words.digit_at.Tie as tie
+use Rattle.words.proofs.digit_at.Statement.{statement}
+use Rattle.words.proofs.digit_at.Tie as tie
 
 scalar-at-requires : tie.Need-scalar-at-requires
 scalar-at-requires c κs = search needs

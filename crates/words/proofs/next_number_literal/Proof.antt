@@ -5,17 +5,17 @@ use native.Mathlib.Omega.{arith}
 use borrow.Author.Needs.{needs}
 use lib.ListN.{length}
 use borrow.Author.Tests.{not-false, not-true}
 use Rattle.readers.proofs.Scans.{Goes, goes-before, goes-end, goes-on}
 use Rattle.readers.proofs.Steps.{digitsAt, number-bare, number-dot, number-more, number-other, number-part}
 use Rattle.readers.specs.Readers.{Digits, fractional, integral, numberLitOf, numberStep}
 use Rattle.readers.specs.Rules.{base}
 use Rattle.readers.specs.Scan.{Stop, scan}
 use Rattle.text.proofs.Decode.{step-none, step-one}
 use Rattle.text.specs.Utf8.{rest}
 use Rattle.token.specs.Reads.{gotOf}
 use Rattle.token.specs.declared.kind.Kind.the-variants.{Number}
-use Rattle.readers.proofs.words.next_number_literal.Statement.{statement}
-use Rattle.readers.proofs.words.next_number_literal.Tie as tie
+use Rattle.words.proofs.next_number_literal.Statement.{statement}
+use Rattle.words.proofs.next_number_literal.Tie as tie
 
 abbrev Inv-loop : tie.InvT-loop
 Inv-loop s start at p₀ whole₀ p whole = Goes numberStep (digitsAt whole) s p (scan numberStep base integral at (rest s at) at)

@@ -7,11 +7,11 @@ use lib.Dec.{eqb}
 use borrow.Author.Tests.{eq-eqb, ne-eqb}
 use Rattle.laws.proofs.Cases.{both-false}
 use Rattle.laws.specs.Bools.{both, pick}
 use Rattle.readers.specs.Readers.{wordOf}
 use Rattle.token.specs.Reads.{gotOf}
 use Rattle.token.specs.declared.kind.Kind.the-variants.{Ident, Underscore}
-use Rattle.readers.proofs.words.next_ident.Statement.{statement}
-use Rattle.readers.proofs.words.next_ident.Tie as tie
+use Rattle.words.proofs.next_ident.Statement.{statement}
+use Rattle.words.proofs.next_ident.Tie as tie
 
 word-end-requires : tie.Need-word-end-requires
 word-end-requires c κs = search needs
