@@ -5,11 +5,11 @@ use mathlib.Core.List.{List, [], _∷_}
 use mathlib.Core.Bool.{Bool, true, false}
 use lib.Dec.{eqb}
 use borrow.Author.Tests.{eq-eqb, ne-eqb}
+use Rattle.choice.specs.Rule.{Deep, behindOne, firstOf, foundOr, leftOf, nextIs, noTemplate, otherOf}
 use Rattle.classes.specs.Classes.{isDigit, isWhiteSpace, isXidStart, whiteSpace, xidStart}
 use Rattle.laws.proofs.Cases.{both-false, split}
 use Rattle.laws.specs.Bools.{both, pick}
 use Rattle.laws.specs.Tables.{inRanges}
-use Rattle.choice.specs.Rule.{Deep, behindOne, firstOf, foundOr, leftOf, nextIs, noTemplate, otherOf}
 use Rattle.operators.specs.Operators.{findOne, findThree, findTwo, lookOne, lookThree, lookTwo, ones, operatorOf, threes, twos}
 use Rattle.operators.specs.declared.Operator.{Operator}
 use Rattle.operators.specs.declared.Operator.the-variants.{Found, Nothing}

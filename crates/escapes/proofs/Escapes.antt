@@ -7,11 +7,11 @@ use native.Mathlib.Omega.{arith}
 use borrow.Author.Tests.{eq-eqb, ne-eqb}
 use Rattle.classes.specs.Classes.{hexValue, isDigit, isHexDigit, isHighHex, isLowHex, isWhiteSpace}
 use Rattle.encoding.specs.Encode.{isScalar}
+use Rattle.escapes.specs.Escapes.{byteEscape, byteTurn, charEscape, charTurn, closeOf, digitsOf, hexOf, hexSecond, sharedOf, shiftIn, skipOf, templateOf, unicodeOf}
+use Rattle.escapes.specs.declared.Escape.the-variants.{Bad, Item}
 use Rattle.laws.proofs.Cases.{split, within-inv}
 use Rattle.text.proofs.Decode.{Step}
 use Rattle.text.specs.Utf8.{rest}
-use Rattle.escapes.specs.Escapes.{byteEscape, byteTurn, charEscape, charTurn, closeOf, digitsOf, hexOf, hexSecond, sharedOf, shiftIn, skipOf, templateOf, unicodeOf}
-use Rattle.escapes.specs.declared.Escape.the-variants.{Bad, Item}
 
 pub hex-small : (v : ℕ) → hexValue v < 16
 unfolding hexValue

@@ -5,10 +5,10 @@ use mathlib.Core.Bool.{Bool, true, false}
 use lib.Dec.{leb, eqb}
 use Rattle.classes.specs.Classes.{hexValue, isHexDigit, isWhiteSpace}
 use Rattle.encoding.specs.Encode.{isScalar}
-use Rattle.laws.specs.Bools.{both, pick}
-use Rattle.text.specs.Utf8.{width}
 use Rattle.escapes.specs.declared.Escape.{Escape}
 use Rattle.escapes.specs.declared.Escape.the-variants.{Bad, Item, Skipped}
+use Rattle.laws.specs.Bools.{both, pick}
+use Rattle.text.specs.Utf8.{width}
 
 -- backslash then LF or CR skips following White_Space: the place of the first scalar that is none
 unfoldable pub skipOf : List ℕ → ℕ → ℕ

@@ -7,10 +7,10 @@ use mathlib.Core.Logic.{inl, inr}
 use native.Mathlib.Omega.{arith}
 use lib.Dec.{ltb, eqb}
 use borrow.Author.Tests.{le-ltb, lt-ltb}
-use Rattle.laws.proofs.Cases.{split}
 use Rattle.choice.proofs.Choice.{first-cases}
-use Rattle.lexer.specs.Body.{bodyOf, down, goOn, templateOf, tokenOf, tooDeep, turnOf, up}
 use Rattle.choice.specs.Rule.{Deep, behindOne, firstOf, tokenWith}
+use Rattle.laws.proofs.Cases.{split}
+use Rattle.lexer.specs.Body.{bodyOf, down, goOn, templateOf, tokenOf, tooDeep, turnOf, up}
 use Rattle.operators.proofs.Ends.{operator-lands}
 use Rattle.readers.proofs.Lands.{Lands, byte-lands, char-lands, comment-lands, lands-here, lands-le, line-lands, number-lands, str-lands, white-lands, word-lands}
 use Rattle.readers.specs.Readers.{byteOf, commentOf, lineOf, strOf}
