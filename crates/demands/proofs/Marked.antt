@@ -11,7 +11,7 @@ use Rattle.families.specs.Places.{placeAfter}
 use Rattle.families.specs.Shape.{Form, closeMark, commentForm, formKind, lineForm, openMark, stringForm, templateForm}
 use Rattle.laws.proofs.Cases.{both-false, never, split-eq}
 use Rattle.lexer.specs.Next.{isShebang}
-use Rattle.lexer.specs.Rule.{nextIs}
+use Rattle.choice.specs.Rule.{nextIs}
 use Rattle.numbers.specs.Kinds.{hasInside, numberOf, plainKind}
 use Rattle.outline.specs.Outline.{insideToken}
 use Rattle.outline.specs.Shut.{isShut}

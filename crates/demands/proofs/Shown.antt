@@ -23,7 +23,7 @@ use Rattle.families.specs.Shape.{Form, Framed, Shaped, closeMark, openMark, xs}
 use Rattle.laws.proofs.Cases.{both-false, never, split}
 use Rattle.lexer.specs.Body.{tokenOf}
 use Rattle.lexer.specs.Next.{closeSpan, nextOf}
-use Rattle.lexer.specs.Rule.{nextIs}
+use Rattle.choice.specs.Rule.{nextIs}
 use Rattle.numbers.specs.Kinds.{hasInside}
 use Rattle.outline.specs.Outline.{insideToken}
 use Rattle.readers.specs.Readers.{shut}

@@ -10,14 +10,14 @@ use borrow.Author.Tests.{eq-eqb, ne-eqb}
 use Rattle.classes.specs.Classes.{isWhiteSpace}
 use Rattle.families.specs.Moves.{Moves, mapRead, withWide}
 use Rattle.families.specs.Sane.{Sane}
+use Rattle.operators.specs.Operators.{findOne, findThree, findTwo, foundAt, lookOne, lookThree, lookTwo, ones, operatorOf, orElse, threes, twos}
+use Rattle.operators.specs.declared.Operator.{Operator}
+use Rattle.operators.specs.declared.Operator.the-variants.{Found, Nothing}
 use Rattle.readers.proofs.Lands.{Lands, lands-le, run-lands}
 use Rattle.readers.proofs.Scans.{by-act}
-use Rattle.readers.specs.Operators.{findOne, findThree, findTwo, foundAt, lookOne, lookThree, lookTwo, ones, operatorOf, orElse, threes, twos}
 use Rattle.readers.specs.Readers.{Bytes, Chars, Quoted, body, broken, byteAnswer, byteOf, byteStep, charAnswer, charOf, charStep, closedBy, commentOf, commentStep, control, escape, fresh, inLine, integral, letters, lineOf, numberLitOf, numberStep, run, runStep, shut, skips, slash, slashed, strAnswer, strOf, strStep, text, whiteOf, wordOf}
 use Rattle.readers.specs.Rules.{Rules}
 use Rattle.readers.specs.Scan.{Act, How, Stop, ended, full, scan, short, stopAt}
-use Rattle.readers.specs.declared.operators.Operator.{Operator}
-use Rattle.readers.specs.declared.operators.Operator.the-variants.{Found, Nothing}
 use Rattle.token.specs.Reads.{gotOf}
 use Rattle.token.specs.declared.kind.Kind.{Kind}
 use Rattle.token.specs.declared.kind.Kind.the-variants.{MultilineComment, Number, Whitespace}

@@ -19,7 +19,7 @@ use Rattle.laws.specs.Bools.{both}
 use Rattle.lexer.proofs.Landing.{NextLands, body-consumes, deepOf, token-lands, with-deep}
 use Rattle.lexer.specs.Body.{bodyOf, goOn, templateOf, tokenOf}
 use Rattle.lexer.specs.Next.{closeSpan, isShebang, nextOf}
-use Rattle.lexer.specs.Rule.{Deep, behindOne, firstOf, nextIs, otherOf, tokenWith}
+use Rattle.choice.specs.Rule.{Deep, behindOne, firstOf, nextIs, otherOf, tokenWith}
 use Rattle.readers.proofs.Lands.{Lands, byte-lands, comment-lands, lands-le, line-lands, str-lands}
 use Rattle.readers.specs.Readers.{byteOf, commentOf, lineOf, strOf}
 use Rattle.readers.specs.Rules.{Rules}

@@ -13,14 +13,14 @@ use Rattle.families.specs.Places.{placeAfter}
 use Rattle.families.specs.Sane.{Sane}
 use Rattle.laws.proofs.Cases.{split}
 use Rattle.laws.specs.Bools.{both, pick}
+use Rattle.operators.proofs.Longest.{no-three}
+use Rattle.operators.specs.Operators.{findOne, findThree, findTwo, lookThree, lookTwo, operatorOf, threes, twos}
+use Rattle.operators.specs.declared.Operator.the-variants.{Found}
 use Rattle.readers.proofs.Lands.{byte-reached, char-reached, lands-le, scan-lands, str-reached}
-use Rattle.readers.proofs.Longest.{no-three}
 use Rattle.readers.proofs.Scans.{by-act}
-use Rattle.readers.specs.Operators.{findOne, findThree, findTwo, lookThree, lookTwo, operatorOf, threes, twos}
 use Rattle.readers.specs.Readers.{body, broken, byteAnswer, byteOf, byteStep, charAnswer, charOf, charStep, closedBy, commentOf, commentStep, control, escape, fractional, fresh, inLine, integral, letters, lineOf, numberLitOf, numberStep, run, runStep, shut, skips, slash, slashed, starred, strAnswer, strOf, strStep, text, whiteOf, wordOf}
 use Rattle.readers.specs.Rules.{Rules}
 use Rattle.readers.specs.Scan.{Act, Stop, before, scan}
-use Rattle.readers.specs.declared.operators.Operator.the-variants.{Found}
 use Rattle.token.specs.Reads.{gotOf, reachedOf}
 use Rattle.token.specs.declared.kind.Kind.{Kind}
 use Rattle.token.specs.declared.kind.Kind.the-variants.{Ident, MultilineComment, Number, Underscore, Whitespace}

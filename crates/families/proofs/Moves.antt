@@ -16,7 +16,7 @@ use Rattle.laws.specs.Bools.{both}
 use Rattle.lexer.proofs.Landing.{NextLands, deepOf, token-lands, with-deep}
 use Rattle.lexer.specs.Body.{bodyOf, goOn, templateOf, tokenOf, turnOf}
 use Rattle.lexer.specs.Next.{closeSpan, isShebang, nextOf}
-use Rattle.lexer.specs.Rule.{Deep, behindOne, firstOf, otherOf, tokenWith}
+use Rattle.choice.specs.Rule.{Deep, behindOne, firstOf, otherOf, tokenWith}
 use Rattle.readers.proofs.Lands.{Lands, lands-le}
 use Rattle.readers.specs.Readers.{byteOf, commentOf, lineOf, strOf}
 use Rattle.readers.specs.Rules.{Rules}

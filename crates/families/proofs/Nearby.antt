@@ -6,7 +6,7 @@ use lib.Dec.{eqb}
 use Rattle.classes.specs.Classes.{isDigit}
 use Rattle.families.specs.Near.{Head, Near}
 use Rattle.laws.proofs.Cases.{never}
-use Rattle.lexer.specs.Rule.{nextIs}
+use Rattle.choice.specs.Rule.{nextIs}
 use Rattle.readers.specs.Readers.{beginsDigit}
 
 pub near-head : (x y : List ℕ) → Near x y → Head x y

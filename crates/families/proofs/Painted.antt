@@ -14,9 +14,9 @@ use Rattle.families.specs.Sane.{Sane}
 use Rattle.families.specs.Shape.{Fits, Form, LineEnd, closeMark, commentForm, formKind, lineForm, openMark, plainForm, stringForm, templateForm, xs}
 use Rattle.laws.specs.Tables.{inRanges}
 use Rattle.lexer.specs.Body.{bodyOf, templateOf, tokenOf, turnOf}
-use Rattle.lexer.specs.Rule.{Deep, firstOf, leftOf, otherOf, tokenWith}
+use Rattle.choice.specs.Rule.{Deep, firstOf, leftOf, otherOf, tokenWith}
+use Rattle.operators.specs.Operators.{findOne, findThree, findTwo, lookOne, lookThree, lookTwo, ones, operatorOf, threes, twos}
 use Rattle.readers.proofs.Steps.{commentRead}
-use Rattle.readers.specs.Operators.{findOne, findThree, findTwo, lookOne, lookThree, lookTwo, ones, operatorOf, threes, twos}
 use Rattle.readers.specs.Readers.{commentOf, commentStep, inLine, lineOf, run, runStep, skips, strKind, strOf, strStep, text}
 use Rattle.readers.specs.Rules.{Rules}
 use Rattle.readers.specs.Scan.{Act, Stop, on, scan}

@@ -9,12 +9,12 @@ use Rattle.classes.specs.Classes.{isDigit, isWhiteSpace}
 use Rattle.laws.proofs.Cases.{both-inv, split}
 use Rattle.laws.specs.Bools.{both, pick}
 use Rattle.lexer.specs.Body.{down, goOn, turnOf, up}
-use Rattle.lexer.specs.Rule.{Deep, behindOne, firstOf, foundOr, leftOf, nextIs, otherOf}
-use Rattle.readers.specs.Operators.{operatorOf}
+use Rattle.choice.specs.Rule.{Deep, behindOne, firstOf, foundOr, leftOf, nextIs, otherOf}
+use Rattle.operators.specs.Operators.{operatorOf}
+use Rattle.operators.specs.declared.Operator.{Operator}
+use Rattle.operators.specs.declared.Operator.the-variants.{Found, Nothing}
 use Rattle.readers.specs.Readers.{byteOf, charOf, commentOf, lineOf, numberLitOf, startsWord, strOf, whiteOf, wordOf}
 use Rattle.readers.specs.Rules.{Rules}
-use Rattle.readers.specs.declared.operators.Operator.{Operator}
-use Rattle.readers.specs.declared.operators.Operator.the-variants.{Found, Nothing}
 use Rattle.token.specs.Reads.{gotOf, refusedOf}
 use Rattle.token.specs.declared.kind.Kind.{Kind}
 use Rattle.token.specs.declared.kind.Kind.the-variants.{Comment, Template}

@@ -15,14 +15,14 @@ use Rattle.laws.specs.Bools.{both, pick}
 use Rattle.lexer.proofs.Landing.{deepOf, with-deep}
 use Rattle.lexer.specs.Body.{bodyOf, templateOf, tokenOf}
 use Rattle.lexer.specs.Next.{closeSpan, isShebang, nextOf, shebangOf}
-use Rattle.lexer.specs.Rule.{Deep, behindOne, firstOf, nextIs, tokenWith}
+use Rattle.choice.specs.Rule.{Deep, behindOne, firstOf, nextIs, tokenWith}
 use Rattle.numbers.specs.Kinds.{hasInside, numberOf}
-use Rattle.readers.proofs.Lands.{by-length}
-use Rattle.readers.specs.Operators.{findOne, findThree, findTwo, foundAt, lookOne, lookThree, lookTwo, ones, operatorOf, threes, twos}
+use Rattle.operators.proofs.Ends.{by-length}
+use Rattle.operators.specs.Operators.{findOne, findThree, findTwo, foundAt, lookOne, lookThree, lookTwo, ones, operatorOf, threes, twos}
+use Rattle.operators.specs.declared.Operator.the-variants.{Found}
 use Rattle.readers.specs.Readers.{Bytes, Chars, Quoted, body, broken, byteAnswer, byteOf, byteStep, charAnswer, charOf, charStep, closedBy, commentOf, commentStep, control, escape, fresh, inLine, letters, lineOf, numberLitOf, run, runStep, shut, skips, slash, slashed, strAnswer, strOf, strStep, text, whiteOf, wordOf}
 use Rattle.readers.specs.Rules.{Rules}
 use Rattle.readers.specs.Scan.{How, ended, full, scan, short}
-use Rattle.readers.specs.declared.operators.Operator.the-variants.{Found}
 use Rattle.token.specs.declared.kind.Kind.{Kind}
 use Rattle.token.specs.declared.kind.Kind.the-variants.{Comment, Ident, Shebang, Underscore}
 use Rattle.token.specs.declared.kind.Known.{Known}

@@ -7,11 +7,11 @@ use lib.Dec.{ltb, eqb}
 use Rattle.families.proofs.Pairs.{turn-both}
 use Rattle.laws.proofs.Cases.{split}
 use Rattle.laws.specs.Bools.{both}
-use Rattle.lexer.proofs.Choice.{first-cases}
+use Rattle.choice.proofs.Choice.{first-cases}
 use Rattle.lexer.proofs.Landing.{deepOf, with-deep}
 use Rattle.lexer.specs.Body.{bodyOf, goOn, templateOf, tokenOf}
 use Rattle.lexer.specs.Next.{closeSpan, isShebang, nextOf}
-use Rattle.lexer.specs.Rule.{Deep, behindOne, firstOf, tokenWith}
+use Rattle.choice.specs.Rule.{Deep, behindOne, firstOf, tokenWith}
 use Rattle.readers.specs.Readers.{Bytes, Chars, Quoted, body, broken, byteAnswer, byteOf, byteStep, charAnswer, charOf, charStep, commentOf, control, escape, fresh, letters, lineOf, numberLitOf, shut, slash, slashed, strAnswer, strOf, strStep, text, whiteOf, wordOf}
 use Rattle.readers.specs.Rules.{Rules}
 use Rattle.readers.specs.Scan.{How, ended, full, scan, short}

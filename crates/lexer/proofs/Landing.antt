@@ -7,11 +7,12 @@ use mathlib.Core.Logic.{inl, inr}
 use native.Mathlib.Omega.{arith}
 use lib.Dec.{ltb, eqb}
 use borrow.Author.Tests.{le-ltb, lt-ltb}
+use Rattle.choice.proofs.Choice.{first-cases}
+use Rattle.choice.specs.Rule.{Deep, behindOne, firstOf, tokenWith}
 use Rattle.laws.proofs.Cases.{split}
-use Rattle.lexer.proofs.Choice.{first-cases}
 use Rattle.lexer.specs.Body.{bodyOf, down, goOn, templateOf, tokenOf, tooDeep, turnOf, up}
-use Rattle.lexer.specs.Rule.{Deep, behindOne, firstOf, tokenWith}
-use Rattle.readers.proofs.Lands.{Lands, byte-lands, char-lands, comment-lands, lands-here, lands-le, line-lands, number-lands, operator-lands, str-lands, white-lands, word-lands}
+use Rattle.operators.proofs.Ends.{operator-lands}
+use Rattle.readers.proofs.Lands.{Lands, byte-lands, char-lands, comment-lands, lands-here, lands-le, line-lands, number-lands, str-lands, white-lands, word-lands}
 use Rattle.readers.specs.Readers.{byteOf, commentOf, lineOf, strOf}
 use Rattle.readers.specs.Rules.{Rules, base}
 use Rattle.text.proofs.Decode.{rest-tail, width-pos}

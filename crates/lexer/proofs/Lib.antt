@@ -1,4 +1,3 @@
-pub mod Choice
 pub mod Landing
 pub mod Turns
 pub mod Sources

@@ -6,10 +6,10 @@ use mathlib.Core.Bool.{true, false}
 use native.Mathlib.Omega.{arith}
 use lib.ListN.{length}
 use borrow.Author.Tests.{eq-eqb, le-ltb, ne-eqb}
-use Rattle.lexer.proofs.Choice.{first-deep, first-plain}
+use Rattle.choice.proofs.Choice.{first-deep, first-plain}
+use Rattle.choice.specs.Rule.{firstOf, noTemplate, tokenWith}
 use Rattle.lexer.proofs.Landing.{body-skip, deepOf, token-lands, with-deep}
 use Rattle.lexer.specs.Body.{bodyOf, down, goOn, templateOf, tokenOf, turnOf, up}
-use Rattle.lexer.specs.Rule.{firstOf, noTemplate, tokenWith}
 use Rattle.readers.proofs.Lands.{Lands, lands-le, lands-room}
 use Rattle.readers.specs.Rules.{base}
 use Rattle.text.proofs.Decode.{Step}

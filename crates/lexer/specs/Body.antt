@@ -3,7 +3,7 @@ use Prim.Native.Nat.{ℕ, zero, suc, _+_, _%_}
 use mathlib.Core.List.{List, [], _∷_}
 use mathlib.Core.Bool.{true, false}
 use lib.Dec.{ltb, eqb}
-use Rattle.lexer.specs.Rule.{Deep, tokenWith}
+use Rattle.choice.specs.Rule.{Deep, tokenWith}
 use Rattle.readers.specs.Rules.{Rules}
 use Rattle.token.specs.Reads.{gotOf, refusedOf}
 use Rattle.token.specs.declared.kind.Kind.the-variants.{Template}

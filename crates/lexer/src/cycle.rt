@@ -1,5 +1,5 @@
 // The token reader and the template reader, which call each other with the remaining depth falling.
-use crate::first::read_first;
+use choice::read_first;
 use text::Scalar;
 use token::Kind;
 use token::Read;

@@ -17,7 +17,6 @@ def runs(fn, test, stays, stops):
 
 runs('comments/consume_whitespace', 'isWhiteSpace', 'sym (@is-whitespace .ensures) ∙ not-false _ (@if1 .left)', 'sym (@is-whitespace .ensures) ∙ not-true _ (@if1 .taken)')
 runs('comments/consume_line', 'inLine', 'ap not (ne-eqb _ _ (@if1 .left))', 'ap not (eq-eqb _ _ (@if1 .taken))')
-runs('words/word_end', 'isXidContinue', 'sym (@is-xid-continue .ensures) ∙ not-false _ (@if1 .left)', 'sym (@is-xid-continue .ensures) ∙ not-true _ (@if1 .taken)')
 fill('comments/pass_one', {
     'returns': 'pass-none _ _ (step-none $s$ $at$ (sym (@scalar-at .ensures) ∙ @enum-told .given .1))',
     'returns-2': 'pass-step _ _ _ _ (step-one $s$ $at$ _ _ (sym (@scalar-at .ensures) ∙ @next .given .1))'}, macros=M)

@@ -1,4 +1,3 @@
 pub mod Scans
 pub mod Steps
-pub mod Longest
 pub mod Lands

@@ -1,4 +1,3 @@
 pub mod Rules
 pub mod Scan
 pub mod Readers
-pub mod Operators

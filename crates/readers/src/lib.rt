@@ -1,17 +1,6 @@
-// One reader a rule of document 01: a source and a place in, a place or an answer out. Each is total on every slice and place.
-mod chars;
+// White space, lines and comments, each total on every slice and place. The rule of every reader of document 01 stands in specs/.
 mod comments;
-mod operators;
-mod strings;
-mod words;
 
-pub use chars::next_char_or_label;
 pub use comments::consume_line;
 pub use comments::consume_whitespace;
 pub use comments::next_multiline_comment;
-pub use operators::Operator;
-pub use operators::next_operator;
-pub use strings::next_lit_byte;
-pub use strings::next_str;
-pub use words::next_ident;
-pub use words::next_number_literal;

@@ -31,7 +31,7 @@ fill('check/check_list', {
     macros=W, head='The invariant: what is left of the check gives the answer. Assumes nothing.')
 B = {'s': '(@Start .args .bytes .now)', 'at': '(@loop .at)', 'l': '(left-11 (length $s$) $at$ (@loop-test .taken) (@loop .inv .whole))',
      'w': 'byteRow 11 $s$ $at$ (@loop .n) (@loop .last) (@loop .inv)', 'p': '$s$ $at$ (@loop .n) (@loop .last)',
-     'r': '(@check-record .result) (@check-record .ensures ∙ cc (@wide .ensures, @word-at .ensures, @word-at2 .ensures) ∙ bytes-row $p$ (@if2 .left) (@if3 .left))'}
+     'r': '(@check-record .result) (@check-record .ensures ∙ bytes-row $p$ _ _ _ (@wide .ensures) (@word-at .ensures) (@word-at2 .ensures) (@if2 .left) (@if3 .left))'}
 fill('check/check_bytes', {
     'Inv-loop': 'Walk byteRow 11 bytes at n last', 'μ-loop': 'length bytes - at',
     'returns': '@faulty .ensures ∙ bytes-refused _ (@if1 .taken)',

@@ -129,9 +129,9 @@ module _ (s : List ℕ) (p n last : ℕ) where
   pub bytes-unmarked-2 : (getD s (p + 1) 0 ≡ 0x4b → ⊥) → Faulty (refusalAt 41 n) ≡ rowCheck n last (byteRow (drop p s))
   bytes-unmarked-2 h = rw (at-drop s p 1, ne-eqb (getD s (p + 1) 0) 0x4b h, both-false)
 
-  pub bytes-row : getD s p 0 ≡ 0x54 → getD s (p + 1) 0 ≡ 0x4b
-      → recordCheck n last (getD s (p + 2) 0) (u32At s (p + 3)) (u32At s (p + 7)) ≡ rowCheck n last (byteRow (drop p s))
-  bytes-row h k = rw (first-drop s p, at-drop s p 1, at-drop s p 2, word-drop s p 3, word-drop s p 7, eq-eqb _ _ h, eq-eqb _ _ k)
+  pub bytes-row : (k a b : ℕ) → k ≡ getD s (p + 2) 0 → a ≡ u32At s (p + 3) → b ≡ u32At s (p + 7) → getD s p 0 ≡ 0x54 → getD s (p + 1) 0 ≡ 0x4b
+      → recordCheck n last k a b ≡ rowCheck n last (byteRow (drop p s))
+  bytes-row k a b e f g h i = rw (e, f, g, first-drop s p, at-drop s p 1, at-drop s p 2, word-drop s p 3, word-drop s p 7, eq-eqb _ _ h, eq-eqb _ _ i)
 
 -- a record by the tests of the code
 module _ (n last kind start end : ℕ) where

@@ -6,9 +6,9 @@ use Rattle.classes.specs.Classes.{whiteSpace, xidContinue, xidStart}
 use Rattle.laws.specs.Tables.{inRanges}
 use Rattle.lexer.specs.Body.{bodyOf, templateOf, tokenOf, turnOf}
 use Rattle.lexer.specs.Next.{nextOf}
-use Rattle.lexer.specs.Rule.{firstOf, leftOf, otherOf, tokenWith}
+use Rattle.choice.specs.Rule.{firstOf, leftOf, otherOf, tokenWith}
 use Rattle.numbers.specs.Kinds.{numberOf}
-use Rattle.readers.specs.Operators.{findOne, findThree, findTwo, lookOne, lookThree, lookTwo, ones, operatorOf, threes, twos}
+use Rattle.operators.specs.Operators.{findOne, findThree, findTwo, lookOne, lookThree, lookTwo, ones, operatorOf, threes, twos}
 use Rattle.readers.specs.Readers.{byteOf, byteStep, charOf, charStep, commentOf, commentStep, run, whiteOf, wordOf}
 use Rattle.readers.specs.Rules.{base}
 use Rattle.readers.specs.Scan.{scan}

@@ -11,7 +11,7 @@ use Rattle.families.proofs.Starts.{next-start}
 use Rattle.laws.proofs.Cases.{both-false, never}
 use Rattle.lexer.specs.Body.{tokenOf}
 use Rattle.lexer.specs.Next.{nextAt, nextOf}
-use Rattle.lexer.specs.Rule.{tokenWith}
+use Rattle.choice.specs.Rule.{tokenWith}
 use Rattle.readers.proofs.Lands.{Lands, lands-le, lands-room}
 use Rattle.readers.specs.Rules.{Rules, base}
 use Rattle.text.proofs.Decode.{Step, after-step, by-step, rest-tail, width-pos}

@@ -10,6 +10,9 @@ use lib.Seq.{length-sets, sets}
 use lib.ListN.{length, length-append}
 use borrow.Author.Tests.{eq-eqb, le-ltb, lt-ltb, ne-eqb}
 use Rattle.encoding.proofs.Round.{step-is-scalar}
+use Rattle.escapes.specs.Escapes.{byteEscape, charEscape}
+use Rattle.escapes.specs.declared.Escape.{Escape}
+use Rattle.escapes.specs.declared.Escape.the-variants.{Bad, Item, Skipped}
 use Rattle.laws.proofs.Cases.{never}
 use Rattle.laws.specs.Bools.{pick, same}
 use Rattle.text.proofs.Decode.{Step, rest-tail, width-pos}
@@ -21,13 +24,10 @@ use Rattle.unescape.proofs.Items.{Fits, item-fits}
 use Rattle.unescape.proofs.Lands.{Lands, item-lands, lands-le, lands-room, placeOf}
 use Rattle.unescape.proofs.Stores.{sets-append}
 use Rattle.unescape.specs.Bodies.{Body, Ending, Result, also, bodyOf, fault, isBytes, isSingle, isTemplate, itemBytes, itemOf, judge, measuredOf, noMore, readOf, refuse, refusedAt, turnOf, unescapeOf, whole, writtenOf, wrongCount, wrote}
-use Rattle.unescape.specs.Escapes.{byteEscape, charEscape}
 use Rattle.unescape.specs.declared.body.Form.{Form}
 use Rattle.unescape.specs.declared.body.Measured.{Measured}
 use Rattle.unescape.specs.declared.body.Measured.the-variants.{Stopped, Whole}
 use Rattle.unescape.specs.declared.body.Unescaped.the-variants.{Wrote}
-use Rattle.unescape.specs.declared.escape.Escape.{Escape}
-use Rattle.unescape.specs.declared.escape.Escape.the-variants.{Bad, Item, Skipped}
 
 -- what the code's tests say of the scalar that begins an item
 module _ (form : Form) (v : ℕ) (cs : List ℕ) (p : ℕ) where

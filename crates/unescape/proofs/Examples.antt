@@ -4,11 +4,11 @@ use mathlib.Core.Path.{_≡_, refl}
 use mathlib.Core.List.{List, [], _∷_}
 use Rattle.classes.specs.Classes.{hexValue, whiteSpace}
 use Rattle.encoding.specs.Encode.{bytesOf, encodeOf}
+use Rattle.escapes.specs.Escapes.{byteEscape, byteTurn, charEscape, charTurn, digitsOf, hexOf, hexSecond, sharedOf, skipOf, unicodeOf}
 use Rattle.laws.specs.Tables.{inRanges}
 use Rattle.text.specs.Source.{soundTo, sourceTest}
 use Rattle.text.specs.Utf8.{after, decode, first, from, leadOf, rest, width}
 use Rattle.unescape.specs.Bodies.{bodyOf, itemBytes, itemOf, judge, readOf, refuse, turnOf, unescapeOf, writtenOf, wrote}
-use Rattle.unescape.specs.Escapes.{byteEscape, byteTurn, charEscape, charTurn, digitsOf, hexOf, hexSecond, sharedOf, skipOf, unicodeOf}
 use Rattle.unescape.specs.declared.body.Form.{Form}
 use Rattle.unescape.specs.declared.body.Form.the-variants.{Byte, Char, Text}
 

@@ -10,18 +10,18 @@ use borrow.Author.Tests.{eq-eqb, eqb-true, leb-true, ltb-false, ne-eqb}
 use Rattle.classes.specs.Classes.{hexValue, isHexDigit}
 use Rattle.encoding.proofs.Rows.{by-row, encode-length, encode-none, scalar-low}
 use Rattle.encoding.specs.Encode.{encodeOf, isScalar}
+use Rattle.escapes.proofs.Escapes.{hex-small}
+use Rattle.escapes.specs.Escapes.{byteEscape, byteTurn, charEscape, charTurn, closeOf, digitsOf, hexOf, hexSecond, lineEnd, lowOnly, sharedOf, shiftIn, templateOf, unicodeOf}
+use Rattle.escapes.specs.declared.Escape.{Escape}
+use Rattle.escapes.specs.declared.Escape.the-variants.{Bad, Item, Skipped}
 use Rattle.laws.proofs.Cases.{never, split, split-eq}
 use Rattle.laws.specs.Bools.{pick}
 use Rattle.text.proofs.Decode.{width-pos}
 use Rattle.text.proofs.Leads.{width-1, width-2, width-3, width-4}
 use Rattle.text.specs.Utf8.{width}
-use Rattle.unescape.proofs.Escapes.{hex-small}
 use Rattle.unescape.proofs.Lands.{lands-le, low-lands, pick-by, pick-of, placeOf, shared-place}
 use Rattle.unescape.specs.Bodies.{escapeOf, isBytes, isSingle, isTemplate, itemBytes, itemOf, plainOf}
-use Rattle.unescape.specs.Escapes.{byteEscape, byteTurn, charEscape, charTurn, closeOf, digitsOf, hexOf, hexSecond, lineEnd, lowOnly, sharedOf, shiftIn, templateOf, unicodeOf}
 use Rattle.unescape.specs.declared.body.Form.{Form}
-use Rattle.unescape.specs.declared.escape.Escape.{Escape}
-use Rattle.unescape.specs.declared.escape.Escape.the-variants.{Bad, Item, Skipped}
 
 pub width-most : (v : ℕ) → width v ≤ 4
 width-most v =

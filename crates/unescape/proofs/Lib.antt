@@ -1,4 +1,3 @@
-pub mod Escapes
 pub mod Lands
 pub mod Items
 pub mod Stores

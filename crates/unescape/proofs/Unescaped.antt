@@ -13,6 +13,8 @@ use borrow.Author.Tests.{eq-eqb, eqb-true, le-ltb, lt-ltb, ltb-false, not-false}
 use Rattle.encoding.proofs.Round.{all-whole, decode-scalar, whole-encode}
 use Rattle.encoding.proofs.Rows.{encode-1, encode-length}
 use Rattle.encoding.specs.Encode.{AllScalar, encodeAll, isScalar}
+use Rattle.escapes.specs.declared.Escape.{Escape}
+use Rattle.escapes.specs.declared.Escape.the-variants.{Bad, Item, Skipped}
 use Rattle.laws.proofs.Cases.{never, split, split-eq, split-le}
 use Rattle.laws.proofs.Determined.{determined}
 use Rattle.laws.specs.Bools.{same}
@@ -31,8 +33,6 @@ use Rattle.unescape.specs.Bodies.{Body, Ending, Result, also, bodyOf, fa
 use Rattle.unescape.specs.declared.body.Form.{Form}
 use Rattle.unescape.specs.declared.body.Unescaped.{Unescaped}
 use Rattle.unescape.specs.declared.body.Unescaped.the-variants.{Refused, Wrote}
-use Rattle.unescape.specs.declared.escape.Escape.{Escape}
-use Rattle.unescape.specs.declared.escape.Escape.the-variants.{Bad, Item, Skipped}
 
 -- the items of a body are scalars, or bytes by the form, and take no more bytes than what they were read from
 pub record Sizes (form : Form) (b : Body) (start end : ℕ) : Type 0 where

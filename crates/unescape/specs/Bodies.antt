@@ -5,20 +5,20 @@ use mathlib.Core.Bool.{Bool, true, false, not}
 use lib.Dec.{ltb, eqb}
 use lib.ListN.{length}
 use Rattle.encoding.specs.Encode.{encodeOf}
+use Rattle.escapes.specs.Escapes.{byteEscape, charEscape}
+use Rattle.escapes.specs.declared.Escape.{Escape}
+use Rattle.escapes.specs.declared.Escape.the-variants.{Bad, Item, Skipped}
 use Rattle.laws.specs.Bools.{both, pick}
 use Rattle.text.specs.Source.{sourceTest}
 use Rattle.text.specs.Utf8.{rest, width}
 use Rattle.text.specs.declared.source.Tested.the-variants.{IllFormed, Misplaced, Sound, TooLong}
 use Rattle.token.specs.Reads.{spanOf}
-use Rattle.unescape.specs.Escapes.{byteEscape, charEscape}
 use Rattle.unescape.specs.declared.body.Form.{Form}
 use Rattle.unescape.specs.declared.body.Form.the-variants.{Byte, ByteText, Char, Template, Text}
 use Rattle.unescape.specs.declared.body.Measured.{Measured}
 use Rattle.unescape.specs.declared.body.Measured.the-variants.{Stopped, Whole}
 use Rattle.unescape.specs.declared.body.Unescaped.{Unescaped}
 use Rattle.unescape.specs.declared.body.Unescaped.the-variants.{Refused, Wrote}
-use Rattle.unescape.specs.declared.escape.Escape.{Escape}
-use Rattle.unescape.specs.declared.escape.Escape.the-variants.{Bad, Item, Skipped}
 
 abbrev pub isBytes : Form → Bool
 isBytes Text = false

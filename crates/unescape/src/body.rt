@@ -1,8 +1,8 @@
 // A whole body: measured first, so that a refusal writes nothing, and then written.
-use crate::escape::Escape;
-use crate::escape::parse_byte_escape;
-use crate::escape::parse_char_escape;
 use encoding::Encoded;
+use escapes::Escape;
+use escapes::parse_byte_escape;
+use escapes::parse_char_escape;
 use text::Scalar;
 use text::Tested;
 use token::Refusal;

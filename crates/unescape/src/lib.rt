@@ -1,6 +1,5 @@
 // Escapes, and a whole body read into lent bytes: total, and proved equal to the definitions in specs/.
 mod body;
-mod escape;
 
 pub use body::Form;
 pub use body::Unescaped;

@@ -19,7 +19,7 @@ use Rattle.lexer.proofs.cycle.+read_template+read_token.Lts-read_templa
 use Rattle.lexer.proofs.cycle.read_token.Reads as read-token
 use Rattle.lexer.proofs.cycle.read_token.Kinds as read-token-kinds
 use Rattle.lexer.proofs.cycle.+read_template+read_token.Lts-read_token as read-token-lts
-use Rattle.lexer.proofs.first.read_first.Reads as read-first-reads
+use Rattle.choice.proofs.read_first.Reads as read-first-reads
 use Rattle.std.proofs.num.wrapping_add_u32.Reads as wrapping-add-u32-reads
 use Rattle.std.proofs.num.wrapping_sub_u32.Reads as wrapping-sub-u32-reads
 use Rattle.text.proofs.scalar_at.Reads as scalar-at-reads

@@ -1,0 +1,65 @@
+-- Document 01, "How one token is read": which rule reads a token, in the order of its tests.
+use Prim.Native.Nat.{ℕ, _+_}
+use mathlib.Core.List.{List, [], _∷_}
+use mathlib.Core.Bool.{Bool, true, false}
+use lib.Dec.{eqb}
+use Rattle.classes.specs.Classes.{isDigit, isWhiteSpace}
+use Rattle.laws.specs.Bools.{both, pick}
+use Rattle.operators.specs.Operators.{operatorOf}
+use Rattle.operators.specs.declared.Operator.{Operator}
+use Rattle.operators.specs.declared.Operator.the-variants.{Found, Nothing}
+use Rattle.readers.specs.Readers.{byteOf, charOf, commentOf, lineOf, numberLitOf, startsWord, strOf, whiteOf, wordOf}
+use Rattle.readers.specs.Rules.{Rules}
+use Rattle.token.specs.Reads.{gotOf, refusedOf}
+use Rattle.token.specs.declared.kind.Kind.the-variants.{Comment, Eof}
+use Rattle.token.specs.declared.read.Read.{Read}
+
+abbrev pub nextIs : ℕ → List ℕ → Bool
+nextIs c [] = false
+nextIs c (v ∷ cs) = eqb v c
+
+-- a reader, from behind the first of the scalars on
+abbrev pub behindOne : Rules → (List ℕ → ℕ → Read) → List ℕ → ℕ → Read
+behindOne R f [] p = f [] p
+behindOne R f (v ∷ cs) p = f cs (p + R .wide v)
+
+abbrev pub foundOr : Operator → ℕ → Read → Read
+foundOr (Found k e) a r = gotOf k a e
+foundOr Nothing a r = r
+
+-- how a template is read: where it starts, the scalars behind its backtick, and their place
+abbrev pub Deep : Type 0
+Deep = ℕ → List ℕ → ℕ → Read
+
+-- the scalar v stands at a; behind it stand the scalars cs, from p on. Words, numbers, char or label, template, and 18 where no rule fits
+unfoldable pub leftOf : Rules → Deep → ℕ → ℕ → List ℕ → ℕ → Read
+leftOf R t v a cs p =
+    pick (startsWord R v) (wordOf R v a cs p)
+    (pick (isDigit v) (numberLitOf R a cs p)
+    (pick (eqb v 39) (charOf R a cs p)
+    (pick (eqb v 96) (t a cs p)
+    (refusedOf 18 a p p))))
+
+-- operators come before these
+unfoldable pub otherOf : Rules → Deep → ℕ → ℕ → List ℕ → ℕ → Read
+otherOf R t v a cs p = foundOr (operatorOf R v cs p) a (leftOf R t v a cs p)
+
+-- white space, `//`, `/*`, `b'`, `b"`, `"`, and then the others
+unfoldable pub firstOf : Rules → Deep → ℕ → ℕ → List ℕ → ℕ → Read
+firstOf R t v a cs p =
+    pick (isWhiteSpace v) (whiteOf R a cs p)
+    (pick (both (eqb v 47) (nextIs 47 cs)) (behindOne R (lineOf R Comment a) cs p)
+    (pick (both (eqb v 47) (nextIs 42 cs)) (behindOne R (commentOf R a) cs p)
+    (pick (both (eqb v 98) (nextIs 39 cs)) (behindOne R (byteOf R a) cs p)
+    (pick (both (eqb v 98) (nextIs 34 cs)) (behindOne R (strOf R true a) cs p)
+    (pick (eqb v 34) (strOf R false a cs p)
+    (otherOf R t v a cs p))))))
+
+-- where no template is read, a backtick fits no rule
+abbrev pub noTemplate : Deep
+noTemplate a cs p = refusedOf 18 a p p
+
+-- at the end 67, a point
+unfoldable pub tokenWith : Rules → Deep → List ℕ → ℕ → Read
+tokenWith R t [] p = gotOf Eof p p
+tokenWith R t (v ∷ cs) p = firstOf R t v p cs (p + R .wide v)

@@ -1,0 +1,76 @@
+// A char or a label, from behind the `'` on.
+use text::Scalar;
+use token::Kind;
+use token::Read;
+ghost use mathlib.Core.Path.{_≡_};
+ghost use Rattle.readers.specs.Readers.{charAnswer, charOf, inLabel, letters};
+ghost use Rattle.readers.specs.Rules.{base};
+ghost use Rattle.text.specs.Utf8.{rest};
+
+fn in_label(v: u32) -> bool
+    ensures { λ r. ⌜ r ≡ inLabel v ⌝ }
+{
+    match v {
+        48..=57 | 97..=122 => true,
+        _ => false,
+    }
+}
+
+// The answer at the end or the stop: whether it is a label still, and whether anything stands in it.
+fn char_or_label(label: bool, some: bool, start: usize, end: usize) -> Read
+    ensures { λ r. ⌜ r ≡ charAnswer start (letters label some) end end ⌝ }
+{
+    if !some {
+        if label {
+            return token::refused(13, start, end, end);
+        }
+        return token::refused(12, start, end, end);
+    }
+    if label {
+        return token::got(Kind::Label, start, end);
+    }
+    token::got(Kind::Char, start, end)
+}
+
+pub fn next_char_or_label(s: &[u8], start: usize, at: usize) -> Read
+    ensures { λ r. ⌜ r ≡ charOf base start (rest (now (s .entry)) at) at ⌝ }
+{
+    let mut p = at;
+    let mut label = true;
+    let mut some = false;
+    loop {
+        let Scalar::One { value, next } = text::scalar_at(s, p) else {
+            return char_or_label(label, some, start, p);
+        };
+        if value == 39 {
+            return char_or_label(false, some, start, next);
+        }
+        if value == 92 {
+            let Scalar::One {
+                value: _,
+                next: after,
+            } = text::scalar_at(s, next)
+            else {
+                return token::refused(10, p, next, next);
+            };
+            label = false;
+            some = true;
+            p = after;
+        } else if in_label(value) {
+            some = true;
+            p = next;
+        } else {
+            if classes::is_control(value) {
+                return token::refused(11, start, p, p);
+            }
+            if label {
+                if some {
+                    return token::got(Kind::Label, start, p);
+                }
+            }
+            label = false;
+            some = true;
+            p = next;
+        }
+    }
+}

@@ -1,0 +1,89 @@
+// Bytes, strings and byte strings, from behind their opening on.
+use text::Scalar;
+use token::Kind;
+use token::Read;
+ghost use mathlib.Core.Path.{_≡_};
+ghost use Rattle.readers.specs.Readers.{byteOf, strKind, strNumber, strOf};
+ghost use Rattle.readers.specs.Rules.{base};
+ghost use Rattle.text.specs.Utf8.{rest};
+
+pub fn next_lit_byte(s: &[u8], start: usize, at: usize) -> Read
+    ensures { λ r. ⌜ r ≡ byteOf base start (rest (now (s .entry)) at) at ⌝ }
+{
+    let Scalar::One {
+        value: _,
+        next: first,
+    } = text::scalar_at(s, at)
+    else {
+        return token::refused(14, start, at, at);
+    };
+    let mut p = first;
+    loop {
+        let Scalar::One { value, next } = text::scalar_at(s, p) else {
+            return token::refused(14, start, p, p);
+        };
+        if value == 92 {
+            let Scalar::One {
+                value: _,
+                next: after,
+            } = text::scalar_at(s, next)
+            else {
+                return token::refused(10, p, next, next);
+            };
+            p = after;
+        } else {
+            if value == 39 {
+                return token::got(Kind::Byte, start, next);
+            }
+            if classes::is_control(value) {
+                return token::refused(15, start, next, next);
+            }
+            p = next;
+        }
+    }
+}
+
+// Which string it is: its kind by the escape mark, and its refusal at the end.
+fn str_kind(bytes: bool, escaped: bool) -> Kind
+    ensures { λ r. ⌜ r ≡ strKind bytes escaped ⌝ }
+{
+    if bytes {
+        Kind::ByteStr { escaped }
+    } else {
+        Kind::Str { escaped }
+    }
+}
+
+fn str_number(bytes: bool) -> u32
+    ensures { λ r. ⌜ r ≡ strNumber bytes ⌝ }
+{
+    if bytes { 17 } else { 16 }
+}
+
+pub fn next_str(s: &[u8], bytes: bool, start: usize, at: usize) -> Read
+    ensures { λ r. ⌜ r ≡ strOf base bytes start (rest (now (s .entry)) at) at ⌝ }
+{
+    let mut p = at;
+    let mut escaped = false;
+    loop {
+        let Scalar::One { value, next } = text::scalar_at(s, p) else {
+            return token::refused(str_number(bytes), start, p, p);
+        };
+        if value == 34 {
+            return token::got(str_kind(bytes, escaped), start, next);
+        }
+        if value == 92 {
+            let Scalar::One {
+                value: _,
+                next: after,
+            } = text::scalar_at(s, next)
+            else {
+                return token::refused(10, p, next, next);
+            };
+            escaped = true;
+            p = after;
+        } else {
+            p = next;
+        }
+    }
+}
