@@ -26,23 +26,3 @@ def number_of():
 
 fill('number_of', number_of(),
     head='An arm for each kind: what it knows of the kind goes through `numberOf`. Assumes nothing.')
-fill('kind_of', {
-    'returns': 'sym (ap kindOf (@if1 .taken) ∙ kind-zero)',
-    'returns-2': 'sym (kind-above _ (@if2 .taken))',
-    'returns-3': ('kinds', 'sym (kind-at (@Start .args .number) (omega arith) (@if2 .left))')},
-    head='The table is `kinds`, and no other number has a kind. Assumes nothing.')
-fill('is_ws', {
-    'returns': 'simp ($number$, within-yes 1 4 $n$ (omega arith) (omega arith))',
-    'returns-2': 'simp ($number$, within-low 1 4 $n$ (omega arith))',
-    'returns-3': 'simp ($number$, within-high 1 4 $n$ (omega arith))'},
-    head='The ranges of the match are those of the definition. Assumes nothing.',
-    macros={'number': '← @number-of .ensures', 'n': '(@number-of .result)'})
-fill('has_inside', {
-    'returns': 'simp ($number$, within-low 2 4 $n$ (omega arith), within-low 11 14 $n$ (omega arith), $not16$)',
-    'returns-2': 'simp ($number$, within-high 2 4 $n$ (omega arith), within-low 11 14 $n$ (omega arith), $not16$)',
-    'returns-3': 'simp ($number$, within-high 2 4 $n$ (omega arith), within-high 11 14 $n$ (omega arith), $not16$)',
-    'returns-4': 'simp ($number$, @match .keys1)',
-    'returns-5': 'simp ($number$, within-yes 2 4 $n$ (omega arith) (omega arith))',
-    'returns-6': 'simp ($number$, within-yes 11 14 $n$ (omega arith) (omega arith), either-true)'},
-    head='The ranges of the match are those of the definition. Assumes nothing.',
-    macros={'number': '← @number-of .ensures', 'n': '(@number-of .result)', 'not16': 'ne-eqb $n$ 16 (@match .rest .1)'})

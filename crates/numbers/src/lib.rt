@@ -1,9 +1,8 @@
-// The number that is a kind's outside form, and the kind of a number; proved inverse wherever a number has one kind.
+// The number that is a kind's outside form. Its laws (`Inverse`) say that it and `kinds::kind_of` are inverse wherever a number has one kind.
 use token::Bracket;
 use token::Kind;
-use token::Known;
 ghost use mathlib.Core.Path.{_≡_};
-ghost use Rattle.numbers.specs.Kinds.{hasInside, isWs, kindOf, numberOf};
+ghost use Rattle.numbers.specs.Kinds.{numberOf};
 
 pub fn number_of(kind: Kind) -> u32
     ensures { λ r. ⌜ r ≡ numberOf kind ⌝ }
@@ -77,121 +76,5 @@ pub fn number_of(kind: Kind) -> u32
         Kind::LtLtEq => 65,
         Kind::GtGtEq => 66,
         Kind::Eof => 67,
-    }
-}
-
-// The kinds by number, from 1 on.
-const KINDS: [Kind; 67] = [
-    Kind::Whitespace,
-    Kind::Comment,
-    Kind::MultilineComment { closed: true },
-    Kind::MultilineComment { closed: false },
-    Kind::Shebang,
-    Kind::Ident,
-    Kind::Underscore,
-    Kind::Number,
-    Kind::Char,
-    Kind::Byte,
-    Kind::Str { escaped: false },
-    Kind::Str { escaped: true },
-    Kind::ByteStr { escaped: false },
-    Kind::ByteStr { escaped: true },
-    Kind::Label,
-    Kind::Template { closed: true },
-    Kind::Bang,
-    Kind::Pound,
-    Kind::Dollar,
-    Kind::Perc,
-    Kind::Amp,
-    Kind::Open {
-        bracket: Bracket::Round,
-    },
-    Kind::Close {
-        bracket: Bracket::Round,
-    },
-    Kind::Star,
-    Kind::Plus,
-    Kind::Comma,
-    Kind::Dash,
-    Kind::Dot,
-    Kind::Div,
-    Kind::Colon,
-    Kind::SemiColon,
-    Kind::Lt,
-    Kind::Eq,
-    Kind::Gt,
-    Kind::QuestionMark,
-    Kind::At,
-    Kind::Open {
-        bracket: Bracket::Square,
-    },
-    Kind::Close {
-        bracket: Bracket::Square,
-    },
-    Kind::Caret,
-    Kind::Open {
-        bracket: Bracket::Curly,
-    },
-    Kind::Pipe,
-    Kind::Close {
-        bracket: Bracket::Curly,
-    },
-    Kind::Tilde,
-    Kind::BangEq,
-    Kind::PercEq,
-    Kind::AmpAmp,
-    Kind::AmpEq,
-    Kind::StarEq,
-    Kind::PlusEq,
-    Kind::DashEq,
-    Kind::Arrow,
-    Kind::DotDot,
-    Kind::SlashEq,
-    Kind::ColonColon,
-    Kind::LtLt,
-    Kind::LtEq,
-    Kind::EqEq,
-    Kind::Rocket,
-    Kind::GtEq,
-    Kind::GtGt,
-    Kind::CaretEq,
-    Kind::PipeEq,
-    Kind::PipePipe,
-    Kind::DotDotEq,
-    Kind::LtLtEq,
-    Kind::GtGtEq,
-    Kind::Eof,
-];
-
-pub fn kind_of(number: u32) -> Known
-    ensures { λ r. ⌜ r ≡ kindOf number ⌝ }
-{
-    if number == 0 {
-        return Known::Unknown;
-    }
-    if 67 < number {
-        return Known::Unknown;
-    }
-    let at = (number - 1) as usize;
-    Known::Is { kind: KINDS[at] }
-}
-
-// Whether the lookahead takes it for white space.
-pub fn is_ws(kind: Kind) -> bool
-    ensures { λ r. ⌜ r ≡ isWs kind ⌝ }
-{
-    match number_of(kind) {
-        1..=4 => true,
-        _ => false,
-    }
-}
-
-// Whether the outline paints what stands between its marks.
-pub fn has_inside(kind: Kind) -> bool
-    ensures { λ r. ⌜ r ≡ hasInside kind ⌝ }
-{
-    match number_of(kind) {
-        2..=4 | 11..=14 | 16 => true,
-        _ => false,
     }
 }

@@ -124,7 +124,7 @@ fn outline_tokens(s: &[u8], out: &mut [u8]) -> Outlined
                     out,
                     at,
                     end,
-                    numbers::has_inside(kind),
+                    groups::has_inside(kind),
                     at + opens(kind),
                     closes(kind),
                 );

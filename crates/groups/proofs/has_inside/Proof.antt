@@ -3,8 +3,8 @@ use native.Mathlib.Omega.{arith}
 use borrow.Author.Needs.{needs}
 use borrow.Author.Tests.{ne-eqb}
 use Rattle.laws.proofs.Cases.{either-true, within-high, within-low, within-yes}
-use Rattle.numbers.proofs.has_inside.Statement.{statement}
-use Rattle.numbers.proofs.has_inside.Tie as tie
+use Rattle.groups.proofs.has_inside.Statement.{statement}
+use Rattle.groups.proofs.has_inside.Tie as tie
 
 number-of-requires : tie.Need-number-of-requires
 number-of-requires c κs = search needs

@@ -2,10 +2,10 @@
 use mathlib.Core.Path.{sym, ap, _∙_}
 use native.Mathlib.Omega.{arith}
 use borrow.Author.Needs.{needs}
 use Rattle.numbers.proofs.Inverse.{kind-above, kind-at, kind-zero}
 use Rattle.numbers.specs.Kinds.{kindOf, kinds}
-use Rattle.numbers.proofs.kind_of.Statement.{statement}
-use Rattle.numbers.proofs.kind_of.Tie as tie
+use Rattle.kinds.proofs.kind_of.Statement.{statement}
+use Rattle.kinds.proofs.kind_of.Tie as tie
 
 returns : tie.Need-returns
 returns c = sym (ap kindOf (c .if1 .taken) ∙ kind-zero)

@@ -2,8 +2,8 @@
 use native.Mathlib.Omega.{arith}
 use borrow.Author.Needs.{needs}
 use Rattle.laws.proofs.Cases.{within-high, within-low, within-yes}
-use Rattle.numbers.proofs.is_ws.Statement.{statement}
-use Rattle.numbers.proofs.is_ws.Tie as tie
+use Rattle.groups.proofs.is_ws.Statement.{statement}
+use Rattle.groups.proofs.is_ws.Tie as tie
 
 number-of-requires : tie.Need-number-of-requires
 number-of-requires c κs = search needs
