@@ -1,5 +1,5 @@
-fill('put', {'slice-write-s-2': 'simp length-set (omega arith)'})
-fill('make', {
+fill('sources/put', {'slice-write-s-2': 'simp length-set (omega arith)'})
+fill('sources/make', {
     'Inv-loop': 'length s ≡ length s₀', 'μ-loop': 'length s - i',
     'loop-holds': 'refl',
     'loop-less': 'omega (arith, @put .ensures .0, @put .ensures .1, @put .kept .0)',
@@ -20,21 +20,21 @@ KEPT = [f'@agrees .kept .1{" .1" * i} .0' for i in range(4)] + ['@refuses .kept 
 fill('try_one', {
     'slice-aggregate-part': 'let h = sym (length-take-le (@Start .args .n) (@Start .args .s .now) (@if1 .left)) in search needs',
     **{'same-length' + (f'-{i + 1}' if i else ''): KEPT[i % 6] for i in range(12)}})
-fill('copy', {
+fill('sources/copy', {
     'Inv-loop': '(end ≤ length s) × (length s ≡ length s₀)', 'μ-loop': 'left',
     'loop-holds': '(@Start .pre, refl)',
     'same-length': '@loop .inv .1', 'same-length-2': '@loop .inv .1', 'same-length-3': '@loop .inv .1',
     'loop-again': '(simp length-set (omega arith), simp length-set (@loop .inv .1))'},
     head='The copy ends within the lent bytes, which keep their length. Assumes nothing.')
-fill('sprinkle', {
+fill('sources/sprinkle', {
     'Inv-loop': '(end ≤ length s) × (length s ≡ length s₀)', 'μ-loop': 'left',
     'loop-holds': '(@Start .pre, refl)',
     'same-length': '@loop .inv .1', 'same-length-2': '@loop .inv .1',
     'loop-again': '(omega (arith, @put .ensures .1, @put .kept .0), @put .kept .0 ∙ @loop .inv .1)'},
     head='The characters end within the lent bytes, which keep their length. Assumes nothing.')
-fill('below', {'returns': 'mod-lt _ (@Start .pre)'}, uses='use native.Mathlib.Nat.{mod-lt}')
-fill('jump', {'returns-2': 'mod-lt _ (@Start .pre .0)'}, uses='use native.Mathlib.Nat.{mod-lt}')
-fill('damage', {
+fill('sources/below', {'returns': 'mod-lt _ (@Start .pre)'}, uses='use native.Mathlib.Nat.{mod-lt}')
+fill('sources/jump', {'returns-2': 'mod-lt _ (@Start .pre .0)'}, uses='use native.Mathlib.Nat.{mod-lt}')
+fill('sources/damage', {
     'Inv-loop': '(at < length file) × (end ≤ length s) × (length s ≡ length s₀)', 'μ-loop': 'breaks',
     'loop-holds': '(@Start .pre .0, omega arith, refl)'},
     head='A copy ends within the lent bytes, and goes on within the file. Assumes nothing.')

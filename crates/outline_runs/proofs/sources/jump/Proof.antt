@@ -1,7 +1,7 @@
 use borrow.Author.Needs.{needs}
 use native.Mathlib.Nat.{mod-lt}
-use Rattle.outline_runs.proofs.jump.Statement.{statement}
-use Rattle.outline_runs.proofs.jump.Tie as tie
+use Rattle.outline_runs.proofs.sources.jump.Statement.{statement}
+use Rattle.outline_runs.proofs.sources.jump.Tie as tie
 
 below-requires : tie.Need-below-requires
 below-requires c κs = search needs

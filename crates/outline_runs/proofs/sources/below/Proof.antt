@@ -1,7 +1,7 @@
 use borrow.Author.Needs.{needs}
 use native.Mathlib.Nat.{mod-lt}
-use Rattle.outline_runs.proofs.below.Statement.{statement}
-use Rattle.outline_runs.proofs.below.Tie as tie
+use Rattle.outline_runs.proofs.sources.below.Statement.{statement}
+use Rattle.outline_runs.proofs.sources.below.Tie as tie
 
 rem-result : tie.Need-rem-result
 rem-result c = search needs

@@ -4,8 +4,8 @@ use mathlib.Core.Path.{_≡_, refl}
 use native.Mathlib.Omega.{arith}
 use borrow.Author.Needs.{needs}
 use lib.ListN.{length}
-use Rattle.outline_runs.proofs.damage.Statement.{statement}
-use Rattle.outline_runs.proofs.damage.Tie as tie
+use Rattle.outline_runs.proofs.sources.damage.Statement.{statement}
+use Rattle.outline_runs.proofs.sources.damage.Tie as tie
 
 abbrev Inv-loop : tie.InvT-loop
 Inv-loop file s₀ begun n seed₀ cut breaks₀ at₀ end₀ s seed breaks at end = (at < length file) × (end ≤ length s) × (length s ≡ length s₀)

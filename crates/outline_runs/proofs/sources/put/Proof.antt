@@ -1,8 +1,8 @@
 use native.Mathlib.Omega.{arith}
 use borrow.Author.Needs.{needs}
 use lib.ListN.{length-set}
-use Rattle.outline_runs.proofs.put.Statement.{statement}
-use Rattle.outline_runs.proofs.put.Tie as tie
+use Rattle.outline_runs.proofs.sources.put.Statement.{statement}
+use Rattle.outline_runs.proofs.sources.put.Tie as tie
 
 sub-if2 : tie.Need-sub-if2
 sub-if2 c = search needs

@@ -5,8 +5,8 @@ use native.Mathlib.Omega.{arith}
 use borrow.Author.Needs.{needs}
 use lib.ListN.{length}
 use Rattle.text.specs.Utf8.{from}
-use Rattle.outline_runs.proofs.sprinkle.Statement.{statement}
-use Rattle.outline_runs.proofs.sprinkle.Tie as tie
+use Rattle.outline_runs.proofs.sources.sprinkle.Statement.{statement}
+use Rattle.outline_runs.proofs.sources.sprinkle.Tie as tie
 
 abbrev Inv-loop : tie.InvT-loop
 Inv-loop s₀ begun seed end₀ from₀ left₀ s end from left = (end ≤ length s) × (length s ≡ length s₀)

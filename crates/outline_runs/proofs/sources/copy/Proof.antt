@@ -5,8 +5,8 @@ use native.Mathlib.Omega.{arith}
 use borrow.Author.Needs.{needs}
 use lib.ListN.{length, length-set}
 use Rattle.text.specs.Utf8.{from}
-use Rattle.outline_runs.proofs.copy.Statement.{statement}
-use Rattle.outline_runs.proofs.copy.Tie as tie
+use Rattle.outline_runs.proofs.sources.copy.Statement.{statement}
+use Rattle.outline_runs.proofs.sources.copy.Tie as tie
 
 abbrev Inv-loop : tie.InvT-loop
 Inv-loop file at count s₀ begun from₀ end₀ left₀ s from end left = (end ≤ length s) × (length s ≡ length s₀)

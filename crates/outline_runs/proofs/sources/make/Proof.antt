@@ -4,8 +4,8 @@ use mathlib.Core.Path.{_≡_, refl, _∙_}
 use native.Mathlib.Omega.{arith}
 use borrow.Author.Needs.{needs}
 use lib.ListN.{length}
-use Rattle.outline_runs.proofs.make.Statement.{statement}
-use Rattle.outline_runs.proofs.make.Tie as tie
+use Rattle.outline_runs.proofs.sources.make.Statement.{statement}
+use Rattle.outline_runs.proofs.sources.make.Tie as tie
 
 abbrev Inv-loop : tie.InvT-loop
 Inv-loop s₀ begun seed₀ i₀ s seed i = length s ≡ length s₀
