@@ -64,7 +64,7 @@ def places(crate, fn, lts='Lts'):
 
 
 def expand(answer, steps, macros):
-    for _ in range(5):
+    for _ in range(9):
         for k, v in macros.items():
             answer = answer.replace(f'${k}$', v)
 

@@ -84,7 +84,7 @@ def deps(crate):
 
 
 def index(crate, kind):
-    """name -> module, as a file of this crate's specs, proofs or src may name it; nearer crates win."""
+    """name -> module, as a file of this crate's specs, proofs or src may name it; of two crates the one that crates.txt names first wins."""
     table = {}
     for m, names in FIXED.items():
         for n in names.split():

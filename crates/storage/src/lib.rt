@@ -1,6 +1,6 @@
 // The stored token list: `write` makes records of 11 bytes of a token list, three words a token, and `read` makes the list of them again.
 // Each answers the first refusal and then writes nothing; later bytes or words keep their content.
-mod check;
+pub mod check;
 
 ghost use Prim.Native.Nat.{_+_, _%_, _≤_};
 ghost use mathlib.Core.Path.{_≡_};

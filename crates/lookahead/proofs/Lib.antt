@@ -1,0 +1,2 @@
+pub mod spread
+pub mod Listed

@@ -1,0 +1,72 @@
+-- The refusals 34, 30 and 31, and what a call that writes nothing answers. Assumes nothing.
+use Prim.Native.Nat.{ℕ, _+_, _-_, _≤_, _<_}
+use mathlib.Core.Path.{_≡_, sym, ap, _∙_}
+use mathlib.Core.List.{List}
+use mathlib.Core.Bool.{true, false}
+use native.Mathlib.Omega.{arith}
+use borrow.Author.Tests.{eq-eqb, le-leb, lt-leb, ne-eqb}
+use Rattle.looks.proofs.Sounds.{Bounded, bounded-inv}
+use Rattle.looks.specs.Buffer.{Roomy, State, fill, fits}
+use Rattle.looks.specs.Numbered.{tokenCount}
+use Rattle.looks.specs.Sound.{boundedBy, soundBy}
+use Rattle.looks.specs.declared.look.Looked.the-variants.{Refused}
+use Rattle.looks.specs.declared.state.Nums.{Nums}
+use Rattle.laws.proofs.Cases.{both-inv, never, split, split-le}
+use Rattle.looks.specs.Calls.{Turn, fillRefusal, filledBy, filledTo}
+
+pub sound-bounded : (l : List ℕ) (st : State) → soundBy l st ≡ true → Bounded l (st .nums)
+unfolding soundBy
+sound-bounded l st h = bounded-inv l (st .nums) (both-inv (boundedBy l (st .nums)) _ h .0)
+
+-- what filling asks of the numbers
+abbrev Ready : List ℕ → ℕ → Nums → Type 0
+Ready l times m = (m .next ≤ tokenCount l) × Roomy m × (m .«held_len» + times ≤ 8) × (m .«wait_len» ≤ 256)
+
+pub ready-for : (l : List ℕ) (m : Nums) (most times : ℕ) → Bounded l m → most ≤ 8 → times ≡ most - m .«held_len» → Ready l times m
+ready-for l m most times b h e = (b .reach, record { held-in = b .held-in; wait-in = b .wait-in; held-few = b .held-few; wait-few = omega arith }, omega arith, b .wait-few)
+
+module _ (l : List ℕ) (n : ℕ) (st : State) where
+  pub refusal-34 : soundBy l st ≡ false → 34 ≡ fillRefusal l n st
+  unfolding fillRefusal
+  refusal-34 s = rw s
+
+  module _ (s : soundBy l st ≡ true) where
+    pub refusal-30 : 7 < n → 30 ≡ fillRefusal l n st
+    unfolding fillRefusal
+    refusal-30 h = rw (s, lt-leb n 7 h)
+
+    pub refusal-31 : n ≤ 7 → fits l n (st .nums) ≡ false → 31 ≡ fillRefusal l n st
+    unfolding fillRefusal
+    refusal-31 h f = rw (s, le-leb n 7 h, f)
+
+    pub refusal-0 : n ≤ 7 → fits l n (st .nums) ≡ true → 0 ≡ fillRefusal l n st
+    unfolding fillRefusal
+    refusal-0 h f = rw (s, le-leb n 7 h, f)
+
+  -- where nothing is refused the state is sound, n is small and 256 suffice
+  pub refusal-none : fillRefusal l n st ≡ 0 → (soundBy l st ≡ true) × (n ≤ 7) × (fits l n (st .nums) ≡ true)
+  unfolding fillRefusal
+  refusal-none e =
+      split (soundBy l st)
+      (λ s. split-le n 7
+      (λ h. split (fits l n (st .nums))
+      (λ f. (s, h, f))
+      (λ f. never (let w : _≡_ {A = ℕ} 31 0 = rw (s, le-leb n 7 h, f) at e in omega arith)))
+      (λ h. never (let w : _≡_ {A = ℕ} 30 0 = rw (s, lt-leb n 7 h) at e in omega arith)))
+      (λ s. never (let w : _≡_ {A = ℕ} 34 0 = rw s at e in omega arith))
+
+  module _ (number : ℕ) (is : number ≡ fillRefusal l n st) where
+    pub filled-no : (number ≡ 0 → ⊥) → st ≡ filledTo l n st
+    filled-no h = rw (ne-eqb (fillRefusal l n st) 0 (λ e. h (is ∙ e)))
+
+    pub filled-yes : number ≡ 0 → fill l n st ≡ filledTo l n st
+    filled-yes h = rw (eq-eqb (fillRefusal l n st) 0 (sym is ∙ h))
+
+    module _ (asked : State → Turn) (f : State) (e : f ≡ filledTo l n st) where
+      pub asked-no : (number ≡ 0 → ⊥) → (f ≡ filledBy l n st asked .state) × (Refused number ≡ filledBy l n st asked .answer)
+      asked-no h =
+          let t = ne-eqb (fillRefusal l n st) 0 (λ z. h (is ∙ z)) in
+          (rw t (e ∙ sym (filled-no h)), rw t (ap Refused is))
+
+      pub asked-yes : number ≡ 0 → asked f ≡ filledBy l n st asked
+      asked-yes h = rw (eq-eqb (fillRefusal l n st) 0 (sym is ∙ h)) (ap asked (e ∙ sym (filled-yes h)))

@@ -1,0 +1,11 @@
+pub mod Numbers
+pub mod Gathers
+pub mod Sounds
+pub mod Stores
+pub mod Fronts
+pub mod Answers
+pub mod Turns
+pub mod Advances
+pub mod Plans
+pub mod Planning
+pub mod Running

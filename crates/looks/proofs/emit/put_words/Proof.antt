@@ -1,0 +1,51 @@
+use native.Mathlib.Omega.{arith}
+use borrow.Author.Needs.{needs}
+use lib.ListN.{length-set}
+use Rattle.looks.proofs.Stores.{words-store}
+use Rattle.looks.proofs.emit.put_words.Statement.{statement}
+use Rattle.looks.proofs.emit.put_words.Tie as tie
+
+mul-out : tie.Need-mul-out
+mul-out c = search needs
+
+slice-write-out : tie.Need-slice-write-out
+slice-write-out c = search needs
+
+add-out : tie.Need-add-out
+add-out c = search needs
+
+mul-out-2 : tie.Need-mul-out-2
+mul-out-2 c = search needs
+
+slice-write-out-2 : tie.Need-slice-write-out-2
+slice-write-out-2 c = simp length-set (omega arith)
+
+add-out-2 : tie.Need-add-out-2
+add-out-2 c = search needs
+
+mul-out-3 : tie.Need-mul-out-3
+mul-out-3 c = search needs
+
+slice-write-out-3 : tie.Need-slice-write-out-3
+slice-write-out-3 c = simp length-set (omega arith)
+
+same-length : tie.Need-same-length
+same-length c = search needs
+
+returns : tie.Need-returns
+returns c = words-store (c .args .out .now) (c .args .at) (c .args .words .kind) (c .args .words .start) (c .args .words .end)
+
+pub put-words-spec : {M : Type 1} → statement M
+put-words-spec =
+    tie.close
+    (tie.spec
+    mul-out
+    slice-write-out
+    add-out
+    mul-out-2
+    slice-write-out-2
+    add-out-2
+    mul-out-3
+    slice-write-out-3
+    same-length
+    returns)

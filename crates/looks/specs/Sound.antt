@@ -1,0 +1,39 @@
+-- Document 01, refusal 34: the faults of a lent state over a list.
+use Prim.Native.Nat.{ℕ, zero, suc, _+_, _%_}
+use mathlib.Core.List.{List}
+use mathlib.Core.Bool.{Bool, true, false}
+use lib.Dec.{leb, ltb}
+use lib.ListN.{getD}
+use Rattle.looks.specs.Buffer.{State}
+use Rattle.looks.specs.Numbered.{isWhite, kindAt, tokenCount}
+use Rattle.looks.specs.declared.state.Nums.{Nums}
+use Rattle.laws.specs.Bools.{both, same}
+
+-- a held or waiting number x ascends, from low on below top, and is of white space or is not
+abbrev pub followsBy : Bool → List ℕ → ℕ → ℕ → ℕ → Bool
+followsBy white l x low top = both (both (leb low x) (ltb x top)) (same white (isWhite (kindAt l x)))
+
+-- n numbers of a ring of the given size, from the slot `at` on
+unfoldable pub ascendsBy : Bool → List ℕ → ℕ → List ℕ → ℕ → ℕ → ℕ → ℕ → Bool
+ascendsBy white l size ring zero at low top = true
+ascendsBy white l size ring (suc n) at low top =
+    both (followsBy white l (getD ring (at % size) 0) low top) (ascendsBy white l size ring n (at + 1) (getD ring (at % size) 0 + 1) top)
+
+-- n counts of a ring of 8, from the slot `at` on, together
+unfoldable pub countSum : List ℕ → ℕ → ℕ → ℕ
+countSum ring zero at = 0
+countSum ring (suc n) at = getD ring (at % 8) 0 + countSum ring n (at + 1)
+
+-- over 8 held, over 256 waiting, a start outside its ring, the next one past the list
+unfoldable pub boundedBy : List ℕ → Nums → Bool
+boundedBy l m =
+    both (both (leb (m .«held_len») 8) (leb (m .«wait_len») 256))
+    (both (both (ltb (m .«held_at») 8) (ltb (m .«wait_at») 256)) (leb (m .next) (tokenCount l)))
+
+-- and held or waiting numbers that do not ascend below the next one or have the wrong kind, and counts that sum above the queue
+unfoldable pub soundBy : List ℕ → State → Bool
+soundBy l st =
+    both (boundedBy l (st .nums))
+    (both (ascendsBy false l 8 (st .held) (st .nums .«held_len») (st .nums .«held_at») 0 (st .nums .next))
+    (both (ascendsBy true l 256 (st .waiting) (st .nums .«wait_len») (st .nums .«wait_at») 0 (st .nums .next))
+    (leb (countSum (st .counts) (st .nums .«held_len») (st .nums .«held_at»)) (st .nums .«wait_len»))))

@@ -1,0 +1,14 @@
+// The calls of the lookahead buffer for a list that was tested, over the state's arrays where they lie.
+mod emit;
+pub mod emits;
+mod fill;
+mod front;
+mod list;
+pub mod look;
+pub mod show;
+mod sound;
+mod state;
+pub mod whiles;
+
+pub use look::Looked;
+pub use state::Nums;
