@@ -1,0 +1,164 @@
+-- Document 01's sentences on the lookahead: what was emitted is a front part of the list, and a call leaves a sound state. Assumes nothing.
+use Prim.Native.Nat.{ℕ, zero, suc, _+_, _*_, _/_, _≤_}
+use mathlib.Core.Path.{_≡_, refl, sym, ap, ap₂, _∙_, subst}
+use mathlib.Core.List.{List, [], _∷_, _++_, append-assoc, append-nil}
+use mathlib.Core.Bool.{Bool, true, false}
+use native.Mathlib.Omega.{arith}
+use lib.Dec.{eqb}
+use lib.ListN.{length, length-replicate}
+use Rattle.emitted.proofs.Goes.{Kept, goes}
+use Rattle.emitted.proofs.Parts.{kept-front, kept-words}
+use Rattle.emitted.proofs.Rises.{rises, total}
+use Rattle.emitted.proofs.Slots.{slots}
+use Rattle.emitted.proofs.Stays.{Sound, sound-bumped, sound-flushed, sound-gather, sound-is, sound-of}
+use Rattle.emitted.proofs.Steps.{Real, Step, Steps, Tidy, keptTo, step-kept}
+use Rattle.emitted.proofs.Views.{Sized, countsOf}
+use Rattle.emitted.proofs.Weave.{keptFrom, pending, weave, words-append, wordsAll}
+use Rattle.emitted.proofs.Whole.{whole-real}
+use Rattle.emitted.specs.Sequence.{Call, IsFront, accepted, advances, arrays, bumps, bumpsIf, bumpsWhile, emitted, emittedBy, ends, fills, flushes, frontPart, glues, isEnd, nths, testedTurn, tokens, turnOf, without}
+use Rattle.laws.proofs.Cases.{never, split}
+use Rattle.lookahead.specs.Checked.{listed, wholeBy}
+use Rattle.lookahead.specs.View.{freshBy}
+use Rattle.looks.proofs.Numbers.{count-bound}
+use Rattle.looks.specs.Buffer.{State}
+use Rattle.looks.specs.Calls.{advanceBy, advanceRefusal, arrayBy, arrayRefusal, bumpBy, bumpIfBy, fillBy, fillRefusal, flushBy, gluedBy, isEofBy, nthBy, nthTokenBy, refuses}
+use Rattle.looks.specs.Numbered.{tokenCount}
+use Rattle.looks.specs.Sound.{soundBy}
+use Rattle.looks.specs.While.{bumpWhileBy, whileRefusal}
+use Rattle.looks.specs.declared.look.Looked.the-variants.{Refused}
+
+pub fresh-sized : (keep : Bool) → Sized (freshBy keep)
+fresh-sized keep = record { held = length-replicate {A = ℕ} 8 0; counts = length-replicate {A = ℕ} 8 0; waiting = length-replicate {A = ℕ} 256 0 }
+
+module _ (l : List ℕ) where
+  fresh-facts : (keep : Bool) → Sound l (freshBy keep)
+  unfolding slots rises total
+  fresh-facts keep =
+      record {
+        sized = fresh-sized keep;
+        bounded = record { held-few = omega arith; wait-few = omega arith; held-in = omega arith; wait-in = omega arith; reach = omega arith };
+        held = refl;
+        waits = refl;
+        sum = omega arith;
+      }
+
+  -- a fresh state is sound
+  pub fresh-sound : (keep : Bool) → soundBy l (freshBy keep) ≡ true
+  fresh-sound keep = sound-is l (freshBy keep) (fresh-facts keep)
+
+  stays-sound : Kept l (λ st ws st′. Sound l st → Sound l st′)
+  stays-sound =
+      record {
+        stay = λ st s. s;
+        after = λ st ws st′ vs st″ f g s. g (f s);
+        gathering = λ st s few room t. sound-gather l st s few room;
+        bumping = λ st s t. sound-bumped l st s;
+        flushing = λ st s t. sound-flushed l st s;
+      }
+
+  -- a state that is not sound is refused with 34
+  pub unsound-refused : (call : Call) (st : State) → soundBy l st ≡ false → testedTurn l call st .answer ≡ Refused 34
+  unfolding fillBy nthBy nthTokenBy gluedBy isEofBy flushBy bumpBy bumpIfBy bumpWhileBy advanceBy arrayBy fillRefusal whileRefusal advanceRefusal arrayRefusal
+  unsound-refused (fills n) st s = rw s
+  unsound-refused (nths n) st s = rw s
+  unsound-refused (tokens n) st s = rw s
+  unsound-refused (glues n) st s = rw s
+  unsound-refused ends st s = rw s
+  unsound-refused (flushes room) st s = rw s
+  unsound-refused (bumps room) st s = rw s
+  unsound-refused (bumpsIf kind room) st s = rw s
+  unsound-refused (bumpsWhile kind room) st s = rw s
+  unsound-refused (advances n room) st s = rw s
+  unsound-refused (arrays n room) st s = split (eqb n 0) (λ b. rw (b, s)) (λ b. rw (b, s))
+
+  module _ (call : Call) (st : State) where
+    -- a call leaves a sound state sound
+    pub leaves-sound : Sized st → soundBy l st ≡ true → soundBy l (testedTurn l call st .state) ≡ true
+    leaves-sound z s = sound-is l (testedTurn l call st .state) (goes l (λ st ws st′. Sound l st → Sound l st′) stays-sound call st (sound-of l st z s) .0)
+
+    -- every accepted call leaves a state that 34 does not refuse
+    pub accepted-sound : Sized st → accepted (testedTurn l call st .answer) ≡ true → soundBy l (testedTurn l call st .state) ≡ true
+    accepted-sound z a = split (soundBy l st) (leaves-sound z) (λ s. never (let e : false ≡ true = sym (ap accepted (unsound-refused call st s)) ∙ a in cc))
+
+-- what calls emit from a state on, by number
+record Emits (l : List ℕ) (keep : Bool) (done ws : List ℕ) : Type 0 where
+  numbers : List ℕ
+  words : ws ≡ wordsAll l numbers
+  count : ℕ
+  few : count ≤ tokenCount l
+  is : done ++ numbers ≡ keptFrom keep l 0 count
+
+module _ (l : List ℕ) (real : Real l) (keep : Bool) where
+  emits : (calls : List Call) (st : State) → Sound l st → Tidy l keep st → (done : List ℕ) → done ++ pending st ≡ keptTo keep l st
+      → Emits l keep done (without isEnd (emitted (testedTurn l) calls st))
+  unfolding emitted without wordsAll
+  emits [] st s t done e =
+      let f = kept-front keep l (st .nums .next) 0 done (pending st) e in
+      let few = f .few in
+      let reach = s .bounded .reach in
+      record { numbers = []; words = refl; count = f .count; few = omega arith; is = append-nil done ∙ f .is }
+  emits (call ∷ calls) st s t done e =
+      let g = goes l (Steps l keep) (step-kept l real keep) call st s in
+      let a = g .1 t in
+      let b = emits calls (testedTurn l call st .state) (g .0) (a .tidy) (done ++ a .numbers) (a .order done e) in
+      record {
+        numbers = a .numbers ++ b .numbers;
+        words = a .words (emitted (testedTurn l) calls (testedTurn l call st .state)) ∙ ap (λ (ws : List ℕ). wordsAll l (a .numbers) ++ ws) (b .words) ∙ sym (words-append l (a .numbers) (b .numbers));
+        count = b .count;
+        few = b .few;
+        is = sym (append-assoc done (a .numbers) (b .numbers)) ∙ b .is;
+      }
+
+  fresh-tidy : Tidy l keep (freshBy keep)
+  unfolding slots total
+  fresh-tidy = record { keeps = refl; even = λ h. refl }
+
+  front-from : (calls : List Call) → IsFront keep l (without isEnd (emitted (testedTurn l) calls (freshBy keep)))
+  unfolding slots weave keptFrom
+  front-from calls =
+      let e = emits calls (freshBy keep) (fresh-facts l keep) fresh-tidy [] refl in
+      let few = e .few in
+      let b = count-bound l .1 in
+      record { count = e .count; few = omega arith; is = e .words ∙ ap (wordsAll l) (e .is) ∙ kept-words l keep (e .count) (omega arith) }
+
+-- the calls of document 01 over a list that is not whole refuse all with 34, and emit nothing
+module _ (l : List ℕ) where
+  quiet : (call : Call) (st : State) → emittedBy call (refuses 34 st) ≡ []
+  quiet (fills n) st = refl
+  quiet (nths n) st = refl
+  quiet (tokens n) st = refl
+  quiet (glues n) st = refl
+  quiet ends st = refl
+  quiet (flushes room) st = refl
+  quiet (bumps room) st = refl
+  quiet (bumpsIf kind room) st = refl
+  quiet (bumpsWhile kind room) st = refl
+  quiet (advances n room) st = refl
+  quiet (arrays n room) st = refl
+
+  emits-none : wholeBy l ≡ false → (calls : List Call) (st : State) → emitted (turnOf l) calls st ≡ []
+  unfolding emitted listed
+  emits-none w [] st = refl
+  emits-none w (call ∷ calls) st = rw w (ap₂ (λ (a b : List ℕ). a ++ b) (quiet call st) (emits-none w calls st))
+
+  emits-tested : wholeBy l ≡ true → (calls : List Call) (st : State) → emitted (turnOf l) calls st ≡ emitted (testedTurn l) calls st
+  unfolding emitted listed
+  emits-tested w [] st = refl
+  emits-tested w (call ∷ calls) st = rw w (ap (λ (ws : List ℕ). emittedBy call (testedTurn l call st) ++ ws) (emits-tested w calls (testedTurn l call st .state)))
+
+  part-none : (keep : Bool) → [] ≡ frontPart keep l 0
+  unfolding without
+  part-none true = refl
+  part-none false = refl
+
+  -- from a fresh state, after any calls: what was emitted, end-of-file aside, is a front part of the list, or with white space dropped that part without it
+  pub front : (keep : Bool) (calls : List Call) → IsFront keep l (without isEnd (emitted (turnOf l) calls (freshBy keep)))
+  unfolding without
+  front keep calls =
+      split (wholeBy l)
+      (λ w. subst (λ (ws : List ℕ). IsFront keep l (without isEnd ws)) (sym (emits-tested w calls (freshBy keep))) (front-from l (whole-real l w) keep calls))
+      (λ w. subst (λ (ws : List ℕ). IsFront keep l (without isEnd ws)) (sym (emits-none w calls (freshBy keep))) (record { count = 0; few = omega arith; is = part-none keep }))
+
+  -- the same of the calls without the list's test, over a list that was tested
+  pub front-tested : wholeBy l ≡ true → (keep : Bool) (calls : List Call) → IsFront keep l (without isEnd (emitted (testedTurn l) calls (freshBy keep)))
+  front-tested w keep calls = front-from l (whole-real l w) keep calls

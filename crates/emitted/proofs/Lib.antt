@@ -1,0 +1,10 @@
+pub mod Slots
+pub mod Rises
+pub mod Views
+pub mod Stays
+pub mod Goes
+pub mod Weave
+pub mod Steps
+pub mod Whole
+pub mod Parts
+pub mod Fronts
