@@ -2,10 +2,10 @@
 """The proofs of the thin methods that lend the lookahead state's arrays where they lie.
 
 usage (run at the repository's root):
-    tools/spread.py CRATE [AHEAD]                      writes the shared walks, crates/CRATE/proofs/spread, from tools/spread.txt
+    tools/spread.py                                    writes the shared walks, crates/lookahead/proofs/spread, from tools/spread.txt
     tools/spread.py CRATE METHOD CALLEE F [WIDTH]      writes a method's Proof.antt over one of them
 
-AHEAD is the struct's path in CRATE, if not `Ahead`; METHOD a path in CRATE (`ahead.Ahead.fill`), CALLEE one with its crate
+METHOD a path in CRATE (`ahead.Ahead.fill`), CALLEE one with its crate
 (`looks.show.fill_at`). F is the definition that both contracts are at, `λ s l. ..`, `λ s n l. ..`, `λ s l o. ..` or
 `λ s n l o. ..`, of the state, the number, the list and the store on entry: what it binds tells the shape. WIDTH is the
 number's, w64 unless given.
@@ -22,7 +22,8 @@ HERE = os.path.dirname(os.path.abspath(__file__))
 sys.path.insert(0, HERE)
 from uses import use_lines  # noqa: E402
 
-ARRAYS = [('held', 8, 48), ('counts', 8, 80), ('waiting', 256, 112)]  # name, length, offset in the state
+ARRAYS = [('held', 8, 40), ('counts', 8, 72), ('waiting', 256, 104)]  # name, length, offset in the state
+WALKS = 'lookahead'  # the crate of the state, and of the shared walks
 SHAPES = {'sl': 'OfList', 'snl': 'OfNList', 'slo': 'OfListOut', 'snlo': 'OfNListOut'}
 
 
@@ -95,7 +96,7 @@ def walked(text):
     return re.sub(r' +$', '', re.sub(r'(?<=\S)  +', ' ', done), flags=re.M)
 
 
-def walks(crate, ahead='Ahead'):
+def walks(crate=WALKS, ahead='ahead.Ahead'):
     os.makedirs(f'crates/{crate}/proofs/spread', exist_ok=True)
     mods = ''.join(f'\npub mod {x}' for x in ['Parts', *SHAPES.values()])
     open(f'crates/{crate}/proofs/spread.antt', 'w').write(f'-- The walks of the thin methods.\n{mods}\n')
@@ -119,7 +120,7 @@ def proof(crate, method, callee, F, width='w64'):
 use contract.Running.{{givenOf, tables, tablesOf}}
 use denote.Triple.Spec.{{tripleOf}}
 use denote.Triple.Table.{{entered, cited}}
-use {module(crate, f'{crate}.spread.{SHAPES[shape]}')}.{{spread-meets}}
+use {module(crate, f'{WALKS}.spread.{SHAPES[shape]}')}.{{spread-meets}}
 use {by} as by
 use {by}.Symbol as by-def
 use {by}.Met as by-thm

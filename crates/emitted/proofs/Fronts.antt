@@ -4,7 +4,7 @@ use mathlib.Core.Path.{_≡_, refl, sym, ap, ap₂, _∙_, subst}
 use mathlib.Core.List.{List, [], _∷_, _++_, append-assoc, append-nil}
 use mathlib.Core.Bool.{Bool, true, false}
 use native.Mathlib.Omega.{arith}
-use lib.Dec.{eqb}
+use lib.Dec.{eqb, ltb}
 use lib.ListN.{length, length-replicate}
 use Rattle.emitted.proofs.Goes.{Kept, goes}
 use Rattle.emitted.proofs.Parts.{kept-front, kept-words}
@@ -17,11 +17,12 @@ use Rattle.emitted.proofs.Weave.{keptFrom, pending, weave, words-append
 use Rattle.emitted.proofs.Whole.{whole-real}
 use Rattle.emitted.specs.Sequence.{Call, IsFront, accepted, advances, arrays, bumps, bumpsIf, bumpsWhile, emitted, emittedBy, ends, fills, flushes, frontPart, glues, isEnd, nths, testedTurn, tokens, turnOf, without}
 use Rattle.laws.proofs.Cases.{never, split}
-use Rattle.lookahead.specs.Checked.{listed, wholeBy}
+use Rattle.listed.specs.Checked.{listed, wholeBy}
 use Rattle.lookahead.specs.View.{freshBy}
 use Rattle.looks.proofs.Numbers.{count-bound}
 use Rattle.looks.specs.Buffer.{State}
 use Rattle.looks.specs.Calls.{advanceBy, advanceRefusal, arrayBy, arrayRefusal, bumpBy, bumpIfBy, fillBy, fillRefusal, flushBy, gluedBy, isEofBy, nthBy, nthTokenBy, refuses}
+use Rattle.looks.specs.Front.{yes}
 use Rattle.looks.specs.Numbered.{tokenCount}
 use Rattle.looks.specs.Sound.{soundBy}
 use Rattle.looks.specs.While.{bumpWhileBy, whileRefusal}
@@ -88,6 +89,10 @@ record Emits (l : List ℕ) (keep : Bool) (done ws : List ℕ) : Type 0 where
   few : count ≤ tokenCount l
   is : done ++ numbers ≡ keptFrom keep l 0 count
 
+yes-keeps : (keep : Bool) → ltb 0 (yes keep) ≡ keep
+yes-keeps true = refl
+yes-keeps false = refl
+
 module _ (l : List ℕ) (real : Real l) (keep : Bool) where
   emits : (calls : List Call) (st : State) → Sound l st → Tidy l keep st → (done : List ℕ) → done ++ pending st ≡ keptTo keep l st
       → Emits l keep done (without isEnd (emitted (testedTurn l) calls st))
@@ -111,7 +116,7 @@ module _ (l : List ℕ) (real : Real l) (keep : Bool) where
 
   fresh-tidy : Tidy l keep (freshBy keep)
   unfolding slots total
-  fresh-tidy = record { keeps = refl; even = λ h. refl }
+  fresh-tidy = record { asked = yes-keeps keep; even = λ h. refl }
 
   front-from : (calls : List Call) → IsFront keep l (without isEnd (emitted (testedTurn l) calls (freshBy keep)))
   unfolding slots weave keptFrom

@@ -8,3 +8,4 @@ pub mod Steps
 pub mod Whole
 pub mod Parts
 pub mod Fronts
+pub mod Calls

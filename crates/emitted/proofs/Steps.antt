@@ -18,7 +18,7 @@ use Rattle.laws.proofs.Cases.{split, split-eq, split-le, within-inv}
 use Rattle.laws.specs.Bools.{pick}
 use Rattle.looks.proofs.Gathers.{gather-waits, white-bound}
 use Rattle.looks.proofs.Numbers.{dark-bound}
-use Rattle.looks.specs.Buffer.{State, gather, gatherAt, gatherNums, gatherTo, whiteTo}
+use Rattle.looks.specs.Buffer.{State, gather, gatherAt, gatherNums, gatherTo, keeps, whiteTo}
 use Rattle.looks.specs.Calls.{bumped, flushed}
 use Rattle.looks.specs.Front.{frontWords, lessHeld, lessWaiting, nthOf, nthWords, whiteOf, whiteWords}
 use Rattle.looks.specs.Numbered.{dark, eofWords, isWhite, kindAt, tokenAt, tokenCount}
@@ -30,7 +30,7 @@ Real l = (i : ℕ) → i < tokenCount l → kindAt l i ≤ 66
 
 -- where more is to be read, nothing waits behind the last held token
 pub record Tidy (l : List ℕ) (keep : Bool) (st : State) : Type 0 where
-  pub keeps : st .nums .keep ≡ keep
+  pub asked : keeps (st .nums) ≡ keep
   pub even : st .nums .next < tokenCount l → total (countsOf st) ≡ st .nums .«wait_len»
 
 abbrev pub keptTo : Bool → List ℕ → State → List ℕ
@@ -72,9 +72,9 @@ module _ (l : List ℕ) (keep : Bool) where
       record {
         numbers = a .numbers ++ b .numbers;
         words = λ rest.
-          ap (without isEnd) (append-assoc ws vs rest) ∙ a .words (vs ++ rest) ∙ ap (λ (s : List ℕ). wordsAll l (a .numbers) ++ s) (b .words rest)
-          ∙ sym (append-assoc (wordsAll l (a .numbers)) (wordsAll l (b .numbers)) (without isEnd rest))
-          ∙ ap (λ (s : List ℕ). s ++ without isEnd rest) (sym (words-append l (a .numbers) (b .numbers)));
+            ap (without isEnd) (append-assoc ws vs rest) ∙ a .words (vs ++ rest) ∙ ap (λ (s : List ℕ). wordsAll l (a .numbers) ++ s) (b .words rest)
+            ∙ sym (append-assoc (wordsAll l (a .numbers)) (wordsAll l (b .numbers)) (without isEnd rest))
+            ∙ ap (λ (s : List ℕ). s ++ without isEnd rest) (sym (words-append l (a .numbers) (b .numbers)));
         order = λ done e. ap (λ (s : List ℕ). s ++ pending st″) (sym (append-assoc done (a .numbers) (b .numbers))) ∙ b .order (done ++ a .numbers) (a .order done e);
         tidy = b .tidy;
       }
@@ -88,8 +88,8 @@ module _ (l : List ℕ) (keep : Bool) (st st′ : State) (more : List ℕ) where
         numbers = [];
         words = λ rest. refl;
         order = λ done e.
-          ap₂ (λ (a b : List ℕ). a ++ b) (append-nil done) p ∙ sym (append-assoc done (pending st) more)
-          ∙ ap (λ (s : List ℕ). s ++ more) e ∙ sym k;
+            ap₂ (λ (a b : List ℕ). a ++ b) (append-nil done) p ∙ sym (append-assoc done (pending st) more)
+            ∙ ap (λ (s : List ℕ). s ++ more) e ∙ sym k;
         tidy = t;
       }
 
@@ -110,7 +110,7 @@ module _ (l : List ℕ) (keep : Bool) (st : State) (s : Sound l st) (few : st .n
   kept-run =
       let b = bound in
       kept-white keep l (p₁ - m₁ .next) (m₁ .next) (λ k a c. white-to l (m₁ .next) k a (omega arith))
-      ∙ ap (λ (b : Bool). range (m₁ .next) (pick b (p₁ - m₁ .next) 0)) (sym (t .keeps))
+      ∙ ap (λ (b : Bool). range (m₁ .next) (pick b (p₁ - m₁ .next) 0)) (sym (t .asked))
 
   kept-to : keptFrom keep l 0 p₁ ≡ keptTo keep l st ++ range (m₁ .next) w₁
   kept-to =
@@ -120,9 +120,9 @@ module _ (l : List ℕ) (keep : Bool) (st : State) (s : Sound l st) (few : st .n
       ap (keptFrom keep l 0) e ∙ kept-split keep l (m₁ .next) (p₁ - m₁ .next) 0
       ∙ ap (λ (s : List ℕ). keptTo keep l st ++ s) (ap (λ (i : ℕ). keptFrom keep l i (p₁ - m₁ .next)) z ∙ kept-run)
 
-  gather-keeps : gather l st .nums .keep ≡ keep
+  gather-keeps : keeps (gather l st .nums) ≡ keep
   unfolding gatherAt gatherTo
-  gather-keeps = t .keeps
+  gather-keeps = t .asked
 
   sum-fits : total (countsOf st) ≤ length (waitOf st)
   sum-fits = let a = s .sum in omega (arith, slots-length 256 (st .waiting) (m₁ .«wait_at») (m₁ .«wait_len»))
@@ -139,7 +139,7 @@ module _ (l : List ℕ) (keep : Bool) (st : State) (s : Sound l st) (few : st .n
       (ap₂ (λ (cs hs : List ℕ). weave cs hs (waitOf (gather l st))) (v .1) (v .0) ∙ ap (weave (countsOf st) (heldOf st)) (v .2)
       ∙ weave-wait (countsOf st) (heldOf st) (waitOf st) (range (m₁ .next) w₁) sum-fits)
       (ap (keptFrom keep l 0) (v .3) ∙ kept-to)
-      (record { keeps = gather-keeps; even = λ k. absurd (omega (arith, v .3)) })
+      (record { asked = gather-keeps; even = λ k. absurd (omega (arith, v .3)) })
 
   step-more : p₁ < tokenCount l → Step l keep st [] (gather l st)
   step-more h =
@@ -157,7 +157,7 @@ module _ (l : List ℕ) (keep : Bool) (st : State) (s : Sound l st) (few : st .n
       ∙ ap₂ (λ (a c : List ℕ). a ++ c) kept-to (ap (λ (i : ℕ). keptFrom keep l i 1) z ∙ kept-dark keep l p₁ (dark-at l (m₁ .next) (s .bounded .reach) h))
       ∙ append-assoc (keptTo keep l st) (range (m₁ .next) w₁) (p₁ ∷ []))
       (record {
-        keeps = gather-keeps;
+        asked = gather-keeps;
         even = λ k. omega (arith, ap total (v .1), total-append (countsOf st) (w₁ ∷ []), total-one w₁, gather-waiting);
       })
 
@@ -223,7 +223,7 @@ module _ (l : List ℕ) (real : Real l) (keep : Bool) (st : State) (s : Sound l 
         (none-pending ∙ bump-rest st (white-fits l st s)
         ∙ ap (λ (xs : List ℕ). front ++ xs) (sym (ap (λ (cs : List ℕ). weave cs (heldOf (bumped st)) (waitOf (bumped st))) (views-none (bumped st) e (st .counts)) ∙ weave-none (heldOf (bumped st)) (waitOf (bumped st)))))
         (b .0)
-        (record { keeps = b .2 ∙ t .keeps; even = λ k. omega (arith, ap total (views-none (bumped st) e (st .counts)), b .1, white-all st none) })
+        (record { asked = ap (ltb 0) (b .2) ∙ t .asked; even = λ k. omega (arith, ap total (views-none (bumped st) e (st .counts)), b .1, white-all st none) })
 
     flush-end : Step l keep st (whiteWords l st) (flushed st)
     unfolding total
@@ -234,7 +234,7 @@ module _ (l : List ℕ) (real : Real l) (keep : Bool) (st : State) (s : Sound l 
         (none-pending ∙ flush-rest
         ∙ ap (λ (xs : List ℕ). front ++ xs) (sym (ap (λ (cs : List ℕ). weave cs (heldOf (flushed st)) (waitOf (flushed st))) (views-none (flushed st) e (flushed st .counts)) ∙ weave-none (heldOf (flushed st)) (waitOf (flushed st)))))
         (f .0)
-        (record { keeps = f .1 ∙ t .keeps; even = λ k. omega (arith, ap total (views-none (flushed st) e (flushed st .counts)), flush-waits, white-all st none) })
+        (record { asked = ap (ltb 0) (f .1) ∙ t .asked; even = λ k. omega (arith, ap total (views-none (flushed st) e (flushed st .counts)), flush-waits, white-all st none) })
 
   module _ (some : m₂ .«held_len» ≡ 0 → ⊥) where
     -- the first held token stands in the list
@@ -273,7 +273,7 @@ module _ (l : List ℕ) (real : Real l) (keep : Bool) (st : State) (s : Sound l 
         ∙ ap (λ (ws : List ℕ). ws ++ without isEnd rest) (sym (words-append l front (h₁ ∷ []))))
         (some-pending (waitOf (bumped st)) (bump-rest st (white-fits l st s)) ∙ sym (append-assoc front (h₁ ∷ []) (pending (bumped st))))
         (b .0)
-        (record { keeps = b .2 ∙ t .keeps; even = λ k. let e = t .even (omega (arith, b .0)) in omega (arith, sum-left, b .1) })
+        (record { asked = ap (ltb 0) (b .2) ∙ t .asked; even = λ k. let e = t .even (omega (arith, b .0)) in omega (arith, sum-left, b .1) })
 
     flush-some : Step l keep st (whiteWords l st) (flushed st)
     unfolding total
@@ -286,7 +286,7 @@ module _ (l : List ℕ) (real : Real l) (keep : Bool) (st : State) (s : Sound l 
         (ap₂ (λ (cs hs : List ℕ). weave cs hs (waitOf (flushed st))) v (f .2 ∙ views-bump st some .0)
         ∙ weave-front 0 (countsOf (bumped st)) h₁ (heldOf (bumped st)) [] (waitOf (flushed st)) refl)))
         (f .0)
-        (record { keeps = f .1 ∙ t .keeps; even = λ k. let e = t .even (omega (arith, f .0)) in omega (arith, sum-left, ap total v, flush-waits) })
+        (record { asked = ap (ltb 0) (f .1) ∙ t .asked; even = λ k. let e = t .even (omega (arith, f .0)) in omega (arith, sum-left, ap total v, flush-waits) })
 
 pub step-kept : (l : List ℕ) → Real l → (keep : Bool) → Kept l (Steps l keep)
 step-kept l real keep =

@@ -11,7 +11,7 @@ use borrow.Author.Tests.{eqb-true, ltb-true}
 use Rattle.emitted.proofs.Steps.{Real}
 use Rattle.laws.proofs.Cases.{both-inv, never, split, split-eq, within-inv}
 use Rattle.laws.specs.Bools.{both, within}
-use Rattle.lookahead.specs.Checked.{good, wholeBy}
+use Rattle.listed.specs.Checked.{good, wholeBy}
 use Rattle.looks.proofs.Numbers.{count-bound, count-whole}
 use Rattle.looks.specs.Numbered.{kindAt, tokenCount}
 use Rattle.storage.specs.Storage.{Below, listCheck, recordCheck, rowsCheck, rowsOf, wordRow}

@@ -6,7 +6,7 @@ use mathlib.Core.Bool.{Bool, true, false}
 use lib.Dec.{eqb}
 use lib.ListN.{length, take}
 use Rattle.laws.specs.Bools.{pick}
-use Rattle.lookahead.specs.Checked.{listed}
+use Rattle.listed.specs.Checked.{listed}
 use Rattle.looks.specs.Buffer.{State}
 use Rattle.looks.specs.Calls.{Turn, advanceBy, arrayBy, bumpBy, bumpIfBy, fillBy, flushBy, gluedBy, isEofBy, nthBy, nthTokenBy}
 use Rattle.looks.specs.Numbered.{isWhite}

@@ -1,2 +1,1 @@
 pub mod spread
-pub mod Listed

@@ -1,32 +1,43 @@
 // The lookahead buffer's calls where the state stands: each lends the three arrays where they lie, and copies none.
-use crate::checked::advance_listed;
-use crate::checked::array_listed;
-use crate::checked::bump_if_listed;
-use crate::checked::bump_listed;
-use crate::checked::bump_while_listed;
-use crate::checked::fill_listed;
-use crate::checked::flush_ws_listed;
-use crate::checked::glued_listed;
-use crate::checked::is_eof_listed;
-use crate::checked::nth_listed;
-use crate::checked::nth_token_listed;
-use crate::checked::peek_listed;
+use listed::advance_listed;
+use listed::array_listed;
+use listed::bump_if_listed;
+use listed::bump_listed;
+use listed::bump_while_listed;
+use listed::fill_listed;
+use listed::flush_ws_listed;
+use listed::glued_listed;
+use listed::is_eof_listed;
+use listed::nth_listed;
+use listed::nth_token_listed;
+use listed::peek_listed;
 use looks::Looked;
 use looks::Nums;
 ghost use mathlib.Core.Path.{_≡_};
 ghost use lib.Seq.{sets};
 ghost use lib.ListN.{length};
-ghost use Rattle.lookahead.specs.Checked.{listed};
+ghost use Rattle.listed.specs.Checked.{listed};
 ghost use Rattle.lookahead.specs.View.{freshBy, viewOf};
 ghost use Rattle.looks.specs.Calls.{advanceBy, arrayBy, bumpBy, bumpIfBy, fillBy, flushBy, gluedBy, isEofBy, nthBy, nthTokenBy};
+ghost use Rattle.looks.specs.Front.{yes};
 ghost use Rattle.looks.specs.While.{bumpWhileBy};
 
 // Held tokens by number, the count of white space before each, and the waiting white space by number.
+#[repr(C)]
 pub struct Ahead {
     pub nums: Nums,
     pub held: [u32; 8],
     pub counts: [u32; 8],
     pub waiting: [u32; 256],
+}
+
+fn flag(keep: bool) -> u32
+    ensures { λ r. ⌜ r ≡ yes keep ⌝ }
+{
+    if keep {
+        return 1;
+    }
+    0
 }
 
 impl Ahead {
@@ -37,11 +48,11 @@ impl Ahead {
         Self {
             nums: Nums {
                 next: 0,
+                keep: flag(keep),
                 held_at: 0,
                 held_len: 0,
                 wait_at: 0,
                 wait_len: 0,
-                keep,
             },
             held: [0; 8],
             counts: [0; 8],

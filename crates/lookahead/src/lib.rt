@@ -1,7 +1,5 @@
 // The parser's lookahead buffer over a lent token list: `Ahead` is the state, and its methods are the calls.
 mod ahead;
-mod checked;
-mod tested;
 
 pub use ahead::Ahead;
 pub use looks::Looked;

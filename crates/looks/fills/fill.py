@@ -1,5 +1,5 @@
 N = '(@Start .args .nums)'
-fill('fill/white_to', {'returns': f'rw (@if1 .taken)', 'returns-2': f'rw (@if1 .left)'})
+fill('fill/white_to', {'returns': 'rw (lt-ltb 0 _ (@if1 .taken))', 'returns-2': 'rw (le-ltb 0 _ (@if1 .left))'})
 G = {'a': '(@Start .args .to) (@Start .args .count) (@Start .args .nums)', 'w': '_ (@wide .ensures .0 ∙ @white-to .ensures)', 'b': '(white-bound $a$, @white-to .ensures, @wide .ensures .0, @Start .pre .1 .wait-few, @Start .good)'}
 fill('fill/gather_to', {
     'returns': 'gather-more $a$ (@if1 .taken) $w$',

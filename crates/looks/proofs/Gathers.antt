@@ -7,7 +7,7 @@ use native.Mathlib.Omega.{arith}
 use lib.ListN.{set}
 use borrow.Author.Tests.{le-leb, le-ltb, lt-leb, lt-ltb}
 use Rattle.looks.proofs.Numbers.{count-bound, dark-bound}
-use Rattle.looks.specs.Buffer.{Roomy, State, fitsFor, gather, gatherAt, gatherNums, gatherTo, gathers, queued, stateOf, whiteTo}
+use Rattle.looks.specs.Buffer.{Roomy, State, fitsFor, gather, gatherAt, gatherNums, gatherTo, gathers, keeps, queued, stateOf, whiteTo}
 use Rattle.looks.specs.Numbered.{dark, tokenCount}
 use Rattle.looks.specs.declared.state.Nums.{Nums}
 use Rattle.laws.proofs.Cases.{split, split-le}
@@ -22,7 +22,7 @@ module _ (p count : ℕ) (m : Nums) where
   gather-last h w e = rw (e, le-ltb p count h)
 
   pub white-bound : whiteTo p m ≤ p - m .next
-  white-bound = split (m .keep) (λ k. rw k (omega arith)) (λ k. rw k (omega arith))
+  white-bound = split (keeps m) (λ k. rw k (omega arith)) (λ k. rw k (omega arith))
 
   pub gather-held : (gatherTo p count m .«held_len» ≤ m .«held_len» + 1) × (p ≤ count → gatherTo p count m .next ≤ count)
   unfolding gatherTo

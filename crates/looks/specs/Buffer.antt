@@ -23,20 +23,24 @@ stateOf m held counts waiting = record { nums = m; held = held; counts = counts;
 abbrev pub ringAt : ℕ → List ℕ → ℕ → ℕ → ℕ
 ringAt size ring at i = getD ring ((at + i) % size) 0
 
+-- 0 says that white space is dropped
+abbrev pub keeps : Nums → Bool
+keeps m = ltb 0 (m .keep)
+
 -- white space is queued if kept, else dropped: so many of the tokens up to p
 abbrev pub whiteTo : ℕ → Nums → ℕ
-whiteTo p m = pick (m .keep) (p - m .next) 0
+whiteTo p m = pick (keeps m) (p - m .next) 0
 
 -- the numbers after the tokens up to p were read and p itself, where p is no white space; p is the count at the list's end
 unfoldable pub gatherTo : ℕ → ℕ → Nums → Nums
 gatherTo p count m =
     record {
       next = pick (ltb p count) (p + 1) p;
+      keep = m .keep;
       «held_at» = m .«held_at»;
       «held_len» = pick (ltb p count) (m .«held_len» + 1) (m .«held_len»);
       «wait_at» = m .«wait_at»;
       «wait_len» = m .«wait_len» + whiteTo p m;
-      keep = m .keep;
     }
 
 abbrev pub gatherNums : List ℕ → Nums → Nums

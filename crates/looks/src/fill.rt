@@ -12,7 +12,7 @@ pub fn white_to(nums: Nums, to: u32) -> u32
     requires { ⌜ nums .next ≤ to ⌝ }
     ensures { λ r. ⌜ r ≡ whiteTo to nums ⌝ }
 {
-    if nums.keep {
+    if 0 < nums.keep {
         return to - nums.next;
     }
     0

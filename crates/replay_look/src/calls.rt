@@ -18,14 +18,18 @@ use looks::show::peek_at;
 use looks::whiles::bump_while_at;
 
 fn fresh(keep: bool) -> Nums {
-    Nums {
+    let mut nums = Nums {
         next: 0,
+        keep: 0,
         held_at: 0,
         held_len: 0,
         wait_at: 0,
         wait_len: 0,
-        keep,
+    };
+    if keep {
+        nums.keep = 1;
     }
+    nums
 }
 
 fn show(

@@ -143,10 +143,10 @@ module _ (w₁ : Width) (k : Name) (F : State → ℕ → List ℕ → Turn) {M 
       lfts = (ν₁ ∷ [], (ν₂ ∷ [], (ν₃ ∷ [], (κ₁, tt))))
 
       abbrev given : (Nums × (RefT (List ℕ) × (RefT (List ℕ) × (RefT (List ℕ) × (ℕ × (RefT (List ℕ) × Unit {0}))))))
-      given = (h .nums, (loan 48 γ₁ (h .held), (loan 80 γ₂ (h .counts), (loan 112 γ₃ (h .waiting), (n₁, (xs, tt))))))
+      given = (h .nums, (loan 40 γ₁ (h .held), (loan 72 γ₂ (h .counts), (loan 104 γ₃ (h .waiting), (n₁, (xs, tt))))))
 
       abbrev vgiven : (List Val × (List Val × (List Val × (List Val × (List Val × (List Val × Unit {0}))))))
-      vgiven = (LL.vals P.the-type P′.the-laws (h .nums), (vptr b (o + 48) ∷ [], (vptr b (o + 80) ∷ [], (vptr b (o + 112) ∷ [], (vint w₁ n₁ ∷ [], (vx ∷ [], tt))))))
+      vgiven = (LL.vals P.the-type P′.the-laws (h .nums), (vptr b (o + 40) ∷ [], (vptr b (o + 72) ∷ [], (vptr b (o + 104) ∷ [], (vint w₁ n₁ ∷ [], (vx ∷ [], tt))))))
 
       abbrev to-g : G .Ghost
       to-g = ((lfts, (fullShare, (fullShare, (fullShare, (q₁, tt)))), tt, given, vgiven), tt)
@@ -186,12 +186,12 @@ module _ (w₁ : Width) (k : Name) (F : State → ℕ → List ℕ → Turn) {M 
           assigns ! (addr ! (from ! (hop ! (look ! 21 refl) (fld ! refl (stop !))))) (from ! (stop !)) (init ! 7 refl (tt, tt)) $
           -- the cell is taken apart, and each array is lent
           move ! (1 ∷ []) $ use1 W (Cells 𝓤 H A W b o h ⊛ raw (Way 𝓤 H A W b o)) (apart 𝓤 H A W b o h) $ split ! $ split ! $ move ! (1 ∷ []) $ split ! $ move ! (1 ∷ []) $ split ! $ move ! (1 ∷ []) $ split ! $ move ! (1 ∷ []) $ drop ! $
-          use1 W (‵ (mem (Array u32 256) .lies (h .waiting) b (o + 112))) (laid 𝓤 H A W b o 256 112 (h .waiting) (array-is 256 (h .waiting) (LL.owed T.the-type T′.the-laws h _ was .1 .1 .1 .0))) $ lft-new ! tt (λ ν₃.
-          move ! (1 ∷ []) $ use1 W (later (some (λ (γ₃ : GName). ‵ (MutRef (named 2) (ν₃ ∷ []) (Array u32 256) .own (loan 112 γ₃ (h .waiting)) (vptr b (o + 112) ∷ [])) ⊛ ‵ (flent (ν₃ ∷ []) (Body (mem (Array u32 256)) b (o + 112) γ₃))))) (lends-ref 𝓤 H A W (Array u32 256) (named 2) (ν₃ ∷ []) (h .waiting) b (o + 112)) $ await ! tt $ pick ! (λ γ₃. split ! $
-          move ! (3 ∷ []) $ use1 W (‵ (mem (Array u32 8) .lies (h .counts) b (o + 80))) (laid 𝓤 H A W b o 8 80 (h .counts) (array-is 8 (h .counts) (LL.owed T.the-type T′.the-laws h _ was .1 .1 .0))) $ lft-new ! tt (λ ν₂.
-          move ! (1 ∷ []) $ use1 W (later (some (λ (γ₂ : GName). ‵ (MutRef (named 1) (ν₂ ∷ []) (Array u32 8) .own (loan 80 γ₂ (h .counts)) (vptr b (o + 80) ∷ [])) ⊛ ‵ (flent (ν₂ ∷ []) (Body (mem (Array u32 8)) b (o + 80) γ₂))))) (lends-ref 𝓤 H A W (Array u32 8) (named 1) (ν₂ ∷ []) (h .counts) b (o + 80)) $ await ! tt $ pick ! (λ γ₂. split ! $
-          move ! (6 ∷ []) $ use1 W (‵ (mem (Array u32 8) .lies (h .held) b (o + 48))) (laid 𝓤 H A W b o 8 48 (h .held) (array-is 8 (h .held) (LL.owed T.the-type T′.the-laws h _ was .1 .0))) $ lft-new ! tt (λ ν₁.
-          move ! (1 ∷ []) $ use1 W (later (some (λ (γ₁ : GName). ‵ (MutRef (named 0) (ν₁ ∷ []) (Array u32 8) .own (loan 48 γ₁ (h .held)) (vptr b (o + 48) ∷ [])) ⊛ ‵ (flent (ν₁ ∷ []) (Body (mem (Array u32 8)) b (o + 48) γ₁))))) (lends-ref 𝓤 H A W (Array u32 8) (named 0) (ν₁ ∷ []) (h .held) b (o + 48)) $ await ! tt $ pick ! (λ γ₁. split ! $
+          use1 W (‵ (mem (Array u32 256) .lies (h .waiting) b (o + 104))) (laid 𝓤 H A W b o 256 104 (h .waiting) (array-is 256 (h .waiting) (LL.owed T.the-type T′.the-laws h _ was .1 .1 .1 .0))) $ lft-new ! tt (λ ν₃.
+          move ! (1 ∷ []) $ use1 W (later (some (λ (γ₃ : GName). ‵ (MutRef (named 2) (ν₃ ∷ []) (Array u32 256) .own (loan 104 γ₃ (h .waiting)) (vptr b (o + 104) ∷ [])) ⊛ ‵ (flent (ν₃ ∷ []) (Body (mem (Array u32 256)) b (o + 104) γ₃))))) (lends-ref 𝓤 H A W (Array u32 256) (named 2) (ν₃ ∷ []) (h .waiting) b (o + 104)) $ await ! tt $ pick ! (λ γ₃. split ! $
+          move ! (3 ∷ []) $ use1 W (‵ (mem (Array u32 8) .lies (h .counts) b (o + 72))) (laid 𝓤 H A W b o 8 72 (h .counts) (array-is 8 (h .counts) (LL.owed T.the-type T′.the-laws h _ was .1 .1 .0))) $ lft-new ! tt (λ ν₂.
+          move ! (1 ∷ []) $ use1 W (later (some (λ (γ₂ : GName). ‵ (MutRef (named 1) (ν₂ ∷ []) (Array u32 8) .own (loan 72 γ₂ (h .counts)) (vptr b (o + 72) ∷ [])) ⊛ ‵ (flent (ν₂ ∷ []) (Body (mem (Array u32 8)) b (o + 72) γ₂))))) (lends-ref 𝓤 H A W (Array u32 8) (named 1) (ν₂ ∷ []) (h .counts) b (o + 72)) $ await ! tt $ pick ! (λ γ₂. split ! $
+          move ! (6 ∷ []) $ use1 W (‵ (mem (Array u32 8) .lies (h .held) b (o + 40))) (laid 𝓤 H A W b o 8 40 (h .held) (array-is 8 (h .held) (LL.owed T.the-type T′.the-laws h _ was .1 .0))) $ lft-new ! tt (λ ν₁.
+          move ! (1 ∷ []) $ use1 W (later (some (λ (γ₁ : GName). ‵ (MutRef (named 0) (ν₁ ∷ []) (Array u32 8) .own (loan 40 γ₁ (h .held)) (vptr b (o + 40) ∷ [])) ⊛ ‵ (flent (ν₁ ∷ []) (Body (mem (Array u32 8)) b (o + 40) γ₁))))) (lends-ref 𝓤 H A W (Array u32 8) (named 0) (ν₁ ∷ []) (h .held) b (o + 40)) $ await ! tt $ pick ! (λ γ₁. split ! $
           -- the call
           move ! (16 ∷ []) $ fsplit ! $ move ! (1 ∷ []) $ fsplit ! $ use1 W (‵ (ShrSlice (named 1) κ₁ u32 .own xs (vx ∷ [])) ⊛ ‵ (ShrSlice (named 1) κ₁ u32 .own xs (vx ∷ []))) (shr-slice-copy 𝓤 H A W (named 1) κ₁ u32 .twice xs (vx ∷ [])) $ split ! $ move ! (0 ∷ 2 ∷ []) $ fjoin ! $ move ! (2 ∷ 0 ∷ []) $ fjoin ! $ move ! (8 ∷ 0 ∷ []) $ fjoin ! $ move ! (5 ∷ 0 ∷ []) $ fjoin ! $ move ! (2 ∷ 0 ∷ []) $ fjoin ! $
           owned ! P.the-row (Is P.the-row) (LL.makes P.the-type P′.the-plain 𝓤 H A) (h .nums) _ (LL.owed T.the-type T′.the-laws h _ was .0) $ fjoin ! $ move ! (7 ∷ 14 ∷ []) $ join ! $ move ! (6 ∷ 0 ∷ []) $ join ! $ move ! (4 ∷ 0 ∷ []) $ join ! $ use2 W (raw (G .pre (to-g ν₁ ν₂ ν₃ γ₁ γ₂ γ₃))) (asked ν₁ ν₂ ν₃ γ₁ γ₂ γ₃) $
@@ -201,12 +201,12 @@ module _ (w₁ : Width) (k : Name) (F : State → ℕ → List ℕ → Turn) {M 
           fsplit ! $ drop ! $ fsplit ! $ move ! (1 ∷ []) $ fsplit ! $ move ! (1 ∷ []) $ fsplit ! $ move ! (1 ∷ []) $ fsplit ! $ drop ! $ fsplit ! $ drop ! $ drop ! $
           move ! (3 ∷ []) $ split ! $ move ! (1 ∷ []) $ peeks ! D.the-row (Is D.the-row) (shows 𝓤 H A D.the-row) d (w ∷ []) (λ is. land ! (from ! (stop !)) (init ! 23 refl (LL.lawful D.the-type D′.the-laws 𝓤 H A W .typed d _ is .0)) $ rewrite ! 23 (λ (u : Val). ‵ (fat fullShare D′.mir l4 0 u)) (ap only (LL.tells D.the-type D′.the-laws d _ is)) refl $
           -- each array comes back at its last list
-          move ! (1 ∷ []) $ split ! $ lft-end ! tt $ move ! (0 ∷ 7 ∷ 5 ∷ []) $ use3 W (later (‵ (mem (Array u32 8) .lies (zs .1 .0) b (o + 48)))) (ref-back 𝓤 H A W (Array u32 8) (ν₁ ∷ []) γ₁ (zs .1 .0) b (o + 48)) $ await ! tt $
-          use1 W (‵ (fat fullShare (tyArray (tyInt w32) 8) b (o + 48) (aval (zs .1 .0))) ⊛ ‵ (Array u32 8 .own (zs .1 .0) (aval (zs .1 .0) ∷ []))) (unlaid 𝓤 H A W b o 8 48 (zs .1 .0)) $ split ! $ move ! (1 ∷ []) $ peeks ! (Array u32 8) (Is (Array u32 8)) (shows 𝓤 H A (Array u32 8)) (zs .1 .0) (aval (zs .1 .0) ∷ []) (λ i₁. drop ! $
-          move ! (1 ∷ []) $ split ! $ lft-end ! tt $ move ! (0 ∷ 7 ∷ 5 ∷ []) $ use3 W (later (‵ (mem (Array u32 8) .lies (zs .1 .1 .0) b (o + 80)))) (ref-back 𝓤 H A W (Array u32 8) (ν₂ ∷ []) γ₂ (zs .1 .1 .0) b (o + 80)) $ await ! tt $
-          use1 W (‵ (fat fullShare (tyArray (tyInt w32) 8) b (o + 80) (aval (zs .1 .1 .0))) ⊛ ‵ (Array u32 8 .own (zs .1 .1 .0) (aval (zs .1 .1 .0) ∷ []))) (unlaid 𝓤 H A W b o 8 80 (zs .1 .1 .0)) $ split ! $ move ! (1 ∷ []) $ peeks ! (Array u32 8) (Is (Array u32 8)) (shows 𝓤 H A (Array u32 8)) (zs .1 .1 .0) (aval (zs .1 .1 .0) ∷ []) (λ i₂. drop ! $
-          move ! (1 ∷ []) $ split ! $ lft-end ! tt $ move ! (0 ∷ 7 ∷ 5 ∷ []) $ use3 W (later (‵ (mem (Array u32 256) .lies (zs .1 .1 .1 .0) b (o + 112)))) (ref-back 𝓤 H A W (Array u32 256) (ν₃ ∷ []) γ₃ (zs .1 .1 .1 .0) b (o + 112)) $ await ! tt $
-          use1 W (‵ (fat fullShare (tyArray (tyInt w32) 256) b (o + 112) (aval (zs .1 .1 .1 .0))) ⊛ ‵ (Array u32 256 .own (zs .1 .1 .1 .0) (aval (zs .1 .1 .1 .0) ∷ []))) (unlaid 𝓤 H A W b o 256 112 (zs .1 .1 .1 .0)) $ split ! $ move ! (1 ∷ []) $ peeks ! (Array u32 256) (Is (Array u32 256)) (shows 𝓤 H A (Array u32 256)) (zs .1 .1 .1 .0) (aval (zs .1 .1 .1 .0) ∷ []) (λ i₃. drop ! $
+          move ! (1 ∷ []) $ split ! $ lft-end ! tt $ move ! (0 ∷ 7 ∷ 5 ∷ []) $ use3 W (later (‵ (mem (Array u32 8) .lies (zs .1 .0) b (o + 40)))) (ref-back 𝓤 H A W (Array u32 8) (ν₁ ∷ []) γ₁ (zs .1 .0) b (o + 40)) $ await ! tt $
+          use1 W (‵ (fat fullShare (tyArray (tyInt w32) 8) b (o + 40) (aval (zs .1 .0))) ⊛ ‵ (Array u32 8 .own (zs .1 .0) (aval (zs .1 .0) ∷ []))) (unlaid 𝓤 H A W b o 8 40 (zs .1 .0)) $ split ! $ move ! (1 ∷ []) $ peeks ! (Array u32 8) (Is (Array u32 8)) (shows 𝓤 H A (Array u32 8)) (zs .1 .0) (aval (zs .1 .0) ∷ []) (λ i₁. drop ! $
+          move ! (1 ∷ []) $ split ! $ lft-end ! tt $ move ! (0 ∷ 7 ∷ 5 ∷ []) $ use3 W (later (‵ (mem (Array u32 8) .lies (zs .1 .1 .0) b (o + 72)))) (ref-back 𝓤 H A W (Array u32 8) (ν₂ ∷ []) γ₂ (zs .1 .1 .0) b (o + 72)) $ await ! tt $
+          use1 W (‵ (fat fullShare (tyArray (tyInt w32) 8) b (o + 72) (aval (zs .1 .1 .0))) ⊛ ‵ (Array u32 8 .own (zs .1 .1 .0) (aval (zs .1 .1 .0) ∷ []))) (unlaid 𝓤 H A W b o 8 72 (zs .1 .1 .0)) $ split ! $ move ! (1 ∷ []) $ peeks ! (Array u32 8) (Is (Array u32 8)) (shows 𝓤 H A (Array u32 8)) (zs .1 .1 .0) (aval (zs .1 .1 .0) ∷ []) (λ i₂. drop ! $
+          move ! (1 ∷ []) $ split ! $ lft-end ! tt $ move ! (0 ∷ 7 ∷ 5 ∷ []) $ use3 W (later (‵ (mem (Array u32 256) .lies (zs .1 .1 .1 .0) b (o + 104)))) (ref-back 𝓤 H A W (Array u32 256) (ν₃ ∷ []) γ₃ (zs .1 .1 .1 .0) b (o + 104)) $ await ! tt $
+          use1 W (‵ (fat fullShare (tyArray (tyInt w32) 256) b (o + 104) (aval (zs .1 .1 .1 .0))) ⊛ ‵ (Array u32 256 .own (zs .1 .1 .1 .0) (aval (zs .1 .1 .1 .0) ∷ []))) (unlaid 𝓤 H A W b o 256 104 (zs .1 .1 .1 .0)) $ split ! $ move ! (1 ∷ []) $ peeks ! (Array u32 256) (Is (Array u32 256)) (shows 𝓤 H A (Array u32 256)) (zs .1 .1 .1 .0) (aval (zs .1 .1 .1 .0) ∷ []) (λ i₃. drop ! $
           assigns ! (of-opd ! (load ! (from ! (fld ! refl (stop !))) (look-in ! 20 (sub ! 0 refl (whole !))))) (from ! (hop ! (look ! 26 refl) (fld ! refl (stop !)))) (store ! 6 refl (LL.lawful P.the-type P′.the-laws 𝓤 H A W .typed (d .nums) _ (nums-is d w is) .0)) $
           assigns ! (of-opd ! (load ! (from ! (fld ! refl (stop !))) (look-in ! 20 (sub ! 1 refl (whole !))))) (from ! (stop !)) (init ! 28 refl (EL.lawful N.the-type N′.the-laws 𝓤 H A W tt .typed (d .answer) _ (answer-is d w is) .0)) $
           -- the cells are put together, and the borrow is closed at the new state

@@ -91,7 +91,7 @@ module _ {M : Type 1} (𝓤 : URA M) (H : Heap 𝓤) (A : Atoms 𝓤) (W : Given
   Way = all 𝓤 (λ (us : Vals). wand 𝓤 (fieldsAt 𝓤 H fullShare τs 0 b o us) (H .at fullShare T′.mir b o (vstruct us)))
 
   abbrev pub Cells : Ahead → Item 𝓤
-  Cells s = ‵ (fat fullShare P′.mir b (o + 0) (LL.val P.the-type P′.the-laws (s .nums))) ⊛ ‵ (fat fullShare (tyArray (tyInt w32) 8) b (o + 48) (aval (s .held))) ⊛ ‵ (fat fullShare (tyArray (tyInt w32) 8) b (o + 80) (aval (s .counts))) ⊛ ‵ (fat fullShare (tyArray (tyInt w32) 256) b (o + 112) (aval (s .waiting))) ⊛ ‵ ftrue
+  Cells s = ‵ (fat fullShare P′.mir b (o + 0) (LL.val P.the-type P′.the-laws (s .nums))) ⊛ ‵ (fat fullShare (tyArray (tyInt w32) 8) b (o + 40) (aval (s .held))) ⊛ ‵ (fat fullShare (tyArray (tyInt w32) 8) b (o + 72) (aval (s .counts))) ⊛ ‵ (fat fullShare (tyArray (tyInt w32) 256) b (o + 104) (aval (s .waiting))) ⊛ ‵ ftrue
 
   pub apart : (s : Ahead) → ent 𝓤 (H .at fullShare T′.mir b o (T′.lowered s)) (sep 𝓤 (mean 𝓤 H A (Cells s)) Way)
   apart s = W .laws .at-fields fullShare _ τs b o (cells s)

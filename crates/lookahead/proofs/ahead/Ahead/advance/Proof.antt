@@ -1,14 +1,14 @@
 use mir.Syntax.{w64}
 use lib.ListN.{length}
-use Rattle.lookahead.specs.Checked.{listed}
+use Rattle.listed.specs.Checked.{listed}
 use Rattle.looks.specs.Calls.{advanceBy}
 use contract.Running.{givenOf, tables, tablesOf}
 use denote.Triple.Spec.{tripleOf}
 use denote.Triple.Table.{entered, cited}
 use Rattle.lookahead.proofs.spread.OfNListOut.{spread-meets}
-use Rattle.lookahead.proofs.checked.advance_listed as by
-use Rattle.lookahead.proofs.checked.advance_listed.Symbol as by-def
-use Rattle.lookahead.proofs.checked.advance_listed.Met as by-thm
+use Rattle.listed.proofs.advance_listed as by
+use Rattle.listed.proofs.advance_listed.Symbol as by-def
+use Rattle.listed.proofs.advance_listed.Met as by-thm
 use Rattle.lookahead.proofs.ahead.Ahead.advance as own
 use Rattle.lookahead.proofs.ahead.Ahead.advance.Key as key
 use Rattle.lookahead.proofs.ahead.Ahead.advance.Statement as stated
@@ -20,4 +20,4 @@ advance-spec 𝓤 H 𝓜 𝓖 𝓡 =
     entered 𝓤 H (tripleOf 𝓤 H (𝓖 .A) own.signature (own.spec 𝓤 H (𝓖 .A) (𝓜 .mem) (𝓡 .run)))
     (tables 𝓤 H 𝓜 𝓡 code.env .C) (tables 𝓤 H 𝓜 𝓡 code.env .Λ) key.name code.function (code.unfolded 𝓤 H 𝓜 𝓡)
     (spread-meets w64 by-def.name (λ s n l o. listed l s (advanceBy l n (length o) s)) 𝓤 H (𝓖 .A) (givenOf 𝓤 H 𝓜 𝓖) (tablesOf 𝓤 H 𝓜 (tables 𝓤 H 𝓜 𝓡 code.env))
-    (cited 𝓤 H (tripleOf 𝓤 H (𝓖 .A) by.signature (by.spec 𝓤 H (𝓖 .A) (𝓜 .mem) (𝓡 .run))) 𝓜 𝓡 code.env by-def.name by-def.routine code.calls-lookahead·checked·advance-listed (by-thm.met 𝓤 H 𝓜 𝓖 𝓡)))
+    (cited 𝓤 H (tripleOf 𝓤 H (𝓖 .A) by.signature (by.spec 𝓤 H (𝓖 .A) (𝓜 .mem) (𝓡 .run))) 𝓜 𝓡 code.env by-def.name by-def.routine code.calls-listed·advance-listed (by-thm.met 𝓤 H 𝓜 𝓖 𝓡)))

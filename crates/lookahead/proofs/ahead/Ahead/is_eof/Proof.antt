@@ -1,12 +1,12 @@
-use Rattle.lookahead.specs.Checked.{listed}
+use Rattle.listed.specs.Checked.{listed}
 use Rattle.looks.specs.Calls.{isEofBy}
 use contract.Running.{givenOf, tables, tablesOf}
 use denote.Triple.Spec.{tripleOf}
 use denote.Triple.Table.{entered, cited}
 use Rattle.lookahead.proofs.spread.OfList.{spread-meets}
-use Rattle.lookahead.proofs.checked.is_eof_listed as by
-use Rattle.lookahead.proofs.checked.is_eof_listed.Symbol as by-def
-use Rattle.lookahead.proofs.checked.is_eof_listed.Met as by-thm
+use Rattle.listed.proofs.is_eof_listed as by
+use Rattle.listed.proofs.is_eof_listed.Symbol as by-def
+use Rattle.listed.proofs.is_eof_listed.Met as by-thm
 use Rattle.lookahead.proofs.ahead.Ahead.is_eof as own
 use Rattle.lookahead.proofs.ahead.Ahead.is_eof.Key as key
 use Rattle.lookahead.proofs.ahead.Ahead.is_eof.Statement as stated
@@ -18,4 +18,4 @@ is-eof-spec 𝓤 H 𝓜 𝓖 𝓡 =
     entered 𝓤 H (tripleOf 𝓤 H (𝓖 .A) own.signature (own.spec 𝓤 H (𝓖 .A) (𝓜 .mem) (𝓡 .run)))
     (tables 𝓤 H 𝓜 𝓡 code.env .C) (tables 𝓤 H 𝓜 𝓡 code.env .Λ) key.name code.function (code.unfolded 𝓤 H 𝓜 𝓡)
     (spread-meets by-def.name (λ s l. listed l s (isEofBy l s)) 𝓤 H (𝓖 .A) (givenOf 𝓤 H 𝓜 𝓖) (tablesOf 𝓤 H 𝓜 (tables 𝓤 H 𝓜 𝓡 code.env))
-    (cited 𝓤 H (tripleOf 𝓤 H (𝓖 .A) by.signature (by.spec 𝓤 H (𝓖 .A) (𝓜 .mem) (𝓡 .run))) 𝓜 𝓡 code.env by-def.name by-def.routine code.calls-lookahead·checked·is-eof-listed (by-thm.met 𝓤 H 𝓜 𝓖 𝓡)))
+    (cited 𝓤 H (tripleOf 𝓤 H (𝓖 .A) by.signature (by.spec 𝓤 H (𝓖 .A) (𝓜 .mem) (𝓡 .run))) 𝓜 𝓡 code.env by-def.name by-def.routine code.calls-listed·is-eof-listed (by-thm.met 𝓤 H 𝓜 𝓖 𝓡)))

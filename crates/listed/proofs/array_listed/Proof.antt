@@ -1,0 +1,31 @@
+use mathlib.Core.Path.{refl, sym, _∙_}
+use borrow.Author.Needs.{needs}
+use borrow.Author.Tests.{not-false, not-true}
+use Rattle.listed.specs.Checked.{listed}
+use Rattle.listed.proofs.array_listed.Statement.{statement}
+use Rattle.listed.proofs.array_listed.Tie as tie
+
+whole-requires : tie.Need-whole-requires
+whole-requires c κs = search needs
+
+refuse-requires : tie.Need-refuse-requires
+refuse-requires c κs = search needs
+
+returns : tie.Need-returns
+unfolding listed
+returns c = rw (sym (c .before .before .whole .ensures) ∙ not-true _ (c .before .if1 .taken)) (rw (c .refuse .ensures) (refl, refl, refl))
+
+array-at-requires : tie.Need-array-at-requires
+array-at-requires c κs = search needs
+
+same-length : tie.Need-same-length
+same-length c = search needs
+
+returns-2 : tie.Need-returns-2
+unfolding listed
+returns-2 c = rw (sym (c .before .before .before .before .before .before .before .before .whole .ensures) ∙ not-false _ (c .before .before .before .before .before .before .before .if1 .left)) (c .before .before .array-at .ensures)
+
+pub array-listed-spec : {M : Type 1} → statement M
+array-listed-spec =
+    tie.close
+    (tie.spec whole-requires refuse-requires returns array-at-requires same-length returns-2)

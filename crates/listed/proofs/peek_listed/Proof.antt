@@ -1,0 +1,27 @@
+use mathlib.Core.Path.{refl, sym, _∙_}
+use borrow.Author.Needs.{needs}
+use borrow.Author.Tests.{not-false, not-true}
+use Rattle.listed.specs.Checked.{listed}
+use Rattle.listed.proofs.peek_listed.Statement.{statement}
+use Rattle.listed.proofs.peek_listed.Tie as tie
+
+whole-requires : tie.Need-whole-requires
+whole-requires c κs = search needs
+
+refuse-requires : tie.Need-refuse-requires
+refuse-requires c κs = search needs
+
+returns : tie.Need-returns
+unfolding listed
+returns c = rw (sym (c .before .before .whole .ensures) ∙ not-true _ (c .before .if1 .taken)) (rw (c .refuse .ensures) (refl, refl))
+
+peek-at-requires : tie.Need-peek-at-requires
+peek-at-requires c κs = search needs
+
+returns-2 : tie.Need-returns-2
+unfolding listed
+returns-2 c = rw (sym (c .before .before .before .before .before .whole .ensures) ∙ not-false _ (c .before .before .before .before .if1 .left)) (c .peek-at .ensures)
+
+pub peek-listed-spec : {M : Type 1} → statement M
+peek-listed-spec =
+    tie.close (tie.spec whole-requires refuse-requires returns peek-at-requires returns-2)

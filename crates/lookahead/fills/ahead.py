@@ -1,0 +1,1 @@
+fill('ahead/Ahead/new', {'returns': 'rw (@flag .ensures)'})
