@@ -151,6 +151,14 @@ module _ (l : List ℕ) where
   emits-tested w [] st = refl
   emits-tested w (call ∷ calls) st = rw w (ap (λ (ws : List ℕ). emittedBy call (testedTurn l call st) ++ ws) (emits-tested w calls (testedTurn l call st .state)))
 
+  -- every accepted call of document 01 leaves a state that 34 does not refuse
+  pub call-sound : (call : Call) (st : State) → Sized st → accepted (turnOf l call st .answer) ≡ true → soundBy l (turnOf l call st .state) ≡ true
+  unfolding listed
+  call-sound call st z a =
+      split (wholeBy l)
+      (λ w. rw w (accepted-sound l call st z (rw w at a)))
+      (λ w. never (let e : false ≡ true = rw w at a in cc))
+
   part-none : (keep : Bool) → [] ≡ frontPart keep l 0
   unfolding without
   part-none true = refl

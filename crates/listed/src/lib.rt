@@ -6,7 +6,7 @@ use looks::emits::bump_at;
 use looks::emits::bump_if_at;
 use looks::emits::flush_at;
 use looks::look::After;
-use looks::look::refuse;
+use looks::look::Looked;
 use looks::show::fill_at;
 use looks::show::glued_at;
 use looks::show::is_eof_at;
@@ -45,7 +45,10 @@ pub fn fill_listed(
         × (r .answer ≡ listed (now (list .entry)) (stateOf nums (now (held .entry)) (now (counts .entry)) (now (waiting .entry))) (fillBy (now (list .entry)) n (stateOf nums (now (held .entry)) (now (counts .entry)) (now (waiting .entry)))) .answer) ⌝ }
 {
     if !whole(list) {
-        return refuse(nums, 34);
+        return After {
+            nums,
+            answer: Looked::Refused { number: 34 },
+        };
     }
     fill_at(nums, held, counts, waiting, n, list)
 }
@@ -61,7 +64,10 @@ pub fn peek_listed(
         × (r .answer ≡ listed (now (list .entry)) (stateOf nums (now (held .entry)) (now (counts .entry)) (now (waiting .entry))) (nthBy (now (list .entry)) 0 (stateOf nums (now (held .entry)) (now (counts .entry)) (now (waiting .entry)))) .answer) ⌝ }
 {
     if !whole(list) {
-        return refuse(nums, 34);
+        return After {
+            nums,
+            answer: Looked::Refused { number: 34 },
+        };
     }
     peek_at(nums, held, counts, waiting, list)
 }
@@ -78,7 +84,10 @@ pub fn nth_listed(
         × (r .answer ≡ listed (now (list .entry)) (stateOf nums (now (held .entry)) (now (counts .entry)) (now (waiting .entry))) (nthBy (now (list .entry)) n (stateOf nums (now (held .entry)) (now (counts .entry)) (now (waiting .entry)))) .answer) ⌝ }
 {
     if !whole(list) {
-        return refuse(nums, 34);
+        return After {
+            nums,
+            answer: Looked::Refused { number: 34 },
+        };
     }
     nth_at(nums, held, counts, waiting, n, list)
 }
@@ -95,7 +104,10 @@ pub fn nth_token_listed(
         × (r .answer ≡ listed (now (list .entry)) (stateOf nums (now (held .entry)) (now (counts .entry)) (now (waiting .entry))) (nthTokenBy (now (list .entry)) n (stateOf nums (now (held .entry)) (now (counts .entry)) (now (waiting .entry)))) .answer) ⌝ }
 {
     if !whole(list) {
-        return refuse(nums, 34);
+        return After {
+            nums,
+            answer: Looked::Refused { number: 34 },
+        };
     }
     nth_token_at(nums, held, counts, waiting, n, list)
 }
@@ -112,7 +124,10 @@ pub fn glued_listed(
         × (r .answer ≡ listed (now (list .entry)) (stateOf nums (now (held .entry)) (now (counts .entry)) (now (waiting .entry))) (gluedBy (now (list .entry)) n (stateOf nums (now (held .entry)) (now (counts .entry)) (now (waiting .entry)))) .answer) ⌝ }
 {
     if !whole(list) {
-        return refuse(nums, 34);
+        return After {
+            nums,
+            answer: Looked::Refused { number: 34 },
+        };
     }
     glued_at(nums, held, counts, waiting, n, list)
 }
@@ -128,7 +143,10 @@ pub fn is_eof_listed(
         × (r .answer ≡ listed (now (list .entry)) (stateOf nums (now (held .entry)) (now (counts .entry)) (now (waiting .entry))) (isEofBy (now (list .entry)) (stateOf nums (now (held .entry)) (now (counts .entry)) (now (waiting .entry)))) .answer) ⌝ }
 {
     if !whole(list) {
-        return refuse(nums, 34);
+        return After {
+            nums,
+            answer: Looked::Refused { number: 34 },
+        };
     }
     is_eof_at(nums, held, counts, waiting, list)
 }
@@ -146,7 +164,10 @@ pub fn flush_ws_listed(
         × (now (out .exit) ≡ sets (now (out .entry)) 0 (listed (now (list .entry)) (stateOf nums (now (held .entry)) (now (counts .entry)) (now (waiting .entry))) (flushBy (now (list .entry)) (length (now (out .entry))) (stateOf nums (now (held .entry)) (now (counts .entry)) (now (waiting .entry)))) .written)) ⌝ }
 {
     if !whole(list) {
-        return refuse(nums, 34);
+        return After {
+            nums,
+            answer: Looked::Refused { number: 34 },
+        };
     }
     flush_at(nums, held, counts, waiting, list, out)
 }
@@ -164,7 +185,10 @@ pub fn bump_listed(
         × (now (out .exit) ≡ sets (now (out .entry)) 0 (listed (now (list .entry)) (stateOf nums (now (held .entry)) (now (counts .entry)) (now (waiting .entry))) (bumpBy (now (list .entry)) (length (now (out .entry))) (stateOf nums (now (held .entry)) (now (counts .entry)) (now (waiting .entry)))) .written)) ⌝ }
 {
     if !whole(list) {
-        return refuse(nums, 34);
+        return After {
+            nums,
+            answer: Looked::Refused { number: 34 },
+        };
     }
     bump_at(nums, held, counts, waiting, list, out)
 }
@@ -183,7 +207,10 @@ pub fn bump_if_listed(
         × (now (out .exit) ≡ sets (now (out .entry)) 0 (listed (now (list .entry)) (stateOf nums (now (held .entry)) (now (counts .entry)) (now (waiting .entry))) (bumpIfBy (now (list .entry)) kind (length (now (out .entry))) (stateOf nums (now (held .entry)) (now (counts .entry)) (now (waiting .entry)))) .written)) ⌝ }
 {
     if !whole(list) {
-        return refuse(nums, 34);
+        return After {
+            nums,
+            answer: Looked::Refused { number: 34 },
+        };
     }
     bump_if_at(nums, held, counts, waiting, kind, list, out)
 }
@@ -202,7 +229,10 @@ pub fn bump_while_listed(
         × (now (out .exit) ≡ sets (now (out .entry)) 0 (listed (now (list .entry)) (stateOf nums (now (held .entry)) (now (counts .entry)) (now (waiting .entry))) (bumpWhileBy (now (list .entry)) kind (length (now (out .entry))) (stateOf nums (now (held .entry)) (now (counts .entry)) (now (waiting .entry)))) .written)) ⌝ }
 {
     if !whole(list) {
-        return refuse(nums, 34);
+        return After {
+            nums,
+            answer: Looked::Refused { number: 34 },
+        };
     }
     bump_while_at(nums, held, counts, waiting, kind, list, out)
 }
@@ -221,7 +251,10 @@ pub fn advance_listed(
         × (now (out .exit) ≡ sets (now (out .entry)) 0 (listed (now (list .entry)) (stateOf nums (now (held .entry)) (now (counts .entry)) (now (waiting .entry))) (advanceBy (now (list .entry)) n (length (now (out .entry))) (stateOf nums (now (held .entry)) (now (counts .entry)) (now (waiting .entry)))) .written)) ⌝ }
 {
     if !whole(list) {
-        return refuse(nums, 34);
+        return After {
+            nums,
+            answer: Looked::Refused { number: 34 },
+        };
     }
     advance_at(nums, held, counts, waiting, n, list, out)
 }
@@ -240,7 +273,10 @@ pub fn array_listed(
         × (now (out .exit) ≡ sets (now (out .entry)) 0 (listed (now (list .entry)) (stateOf nums (now (held .entry)) (now (counts .entry)) (now (waiting .entry))) (arrayBy (now (list .entry)) n (length (now (out .entry))) (stateOf nums (now (held .entry)) (now (counts .entry)) (now (waiting .entry)))) .written)) ⌝ }
 {
     if !whole(list) {
-        return refuse(nums, 34);
+        return After {
+            nums,
+            answer: Looked::Refused { number: 34 },
+        };
     }
     array_at(nums, held, counts, waiting, n, list, out)
 }

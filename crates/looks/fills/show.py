@@ -1,14 +1,14 @@
 S = {'l': '(@Start .args .list .now)', 'm': '(@Start .args .nums)', 'n': '(@Start .args .n)', 'st': '(stateOf $m$ (@Start .args .held .now) (@Start .args .counts .now) (@Start .args .waiting .now))',
      'a': '$l$ $n$ $st$'}
 R = dict(S, s='(sym (@sound .ensures) ∙ not-false _ (@if1 .left))', f='(sym (@fits-for .ensures ∙ ap (λ (k : ℕ). fitsFor $l$ k $m$) (@lacks .ensures)) ∙ ')
-fill('show/fill_refusal', {
+fill('ready/fill_refusal', {
     'returns': 'refusal-34 $a$ (sym (@sound .ensures) ∙ not-true _ (@if1 .taken))',
     'returns-2': 'refusal-30 $a$ $s$ (@if2 .taken)',
     'fits-for-requires': 'ready-for $l$ $m$ ($n$ + 1) _ (sound-bounded $l$ $st$ $s$) (omega (arith, @if2 .left)) (@lacks .ensures)',
     'returns-3': 'refusal-31 $a$ $s$ (@if2 .left) $f$ not-true _ (@if3 .taken))',
     'returns-4': 'refusal-0 $a$ $s$ (@if2 .left) $f$ not-false _ (@if3 .left))'}, macros=R)
 F = dict(S, none='(refusal-none $a$ (sym (@fill-refusal .ensures) ∙ @if1 .left))')
-fill('show/filled_at', {
+fill('ready/filled_at', {
     'returns': '(@fill-refusal .ensures, filled-no $a$ _ (@fill-refusal .ensures) (@if1 .taken))',
     'add-lacks': 'omega (arith, $none$ .1)',
     'gathers-at-requires': 'ready-for $l$ $m$ ($n$ + 1) _ (sound-bounded $l$ $st$ ($none$ .0)) (omega (arith, $none$ .1)) (@lacks .ensures)',

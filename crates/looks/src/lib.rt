@@ -5,9 +5,11 @@ mod fill;
 mod front;
 mod list;
 pub mod look;
+mod ready;
 pub mod show;
 mod sound;
 mod state;
+mod tell;
 pub mod whiles;
 
 pub use look::Looked;

@@ -8,7 +8,6 @@ use looks::emits::bump_at;
 use looks::emits::bump_if_at;
 use looks::emits::flush_at;
 use looks::look::After;
-use looks::look::refuse;
 use looks::show::fill_at;
 use looks::show::glued_at;
 use looks::show::is_eof_at;
@@ -93,7 +92,10 @@ fn call(
     written: &mut [u32],
 ) -> After {
     if is_outside(code, n) {
-        return refuse(nums, 33);
+        return After {
+            nums,
+            answer: Looked::Refused { number: 33 },
+        };
     }
     match code {
         5..=10 => emit(nums, held, counts, waiting, code, n, list, written),

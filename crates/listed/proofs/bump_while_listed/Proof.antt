@@ -8,12 +8,9 @@ use Rattle.listed.proofs.bump_while_listed.Tie as tie
 whole-requires : tie.Need-whole-requires
 whole-requires c κs = search needs
 
-refuse-requires : tie.Need-refuse-requires
-refuse-requires c κs = search needs
-
 returns : tie.Need-returns
 unfolding listed
-returns c = rw (sym (c .before .before .whole .ensures) ∙ not-true _ (c .before .if1 .taken)) (rw (c .refuse .ensures) (refl, refl, refl))
+returns c = rw (sym (c .before .whole .ensures) ∙ not-true _ (c .if1 .taken)) (refl, refl, refl)
 
 bump-while-at-requires : tie.Need-bump-while-at-requires
 bump-while-at-requires c κs = search needs
@@ -28,4 +25,4 @@ returns-2 c = rw (sym (c .before .before .before .before .before .before .before
 pub bump-while-listed-spec : {M : Type 1} → statement M
 bump-while-listed-spec =
     tie.close
-    (tie.spec whole-requires refuse-requires returns bump-while-at-requires same-length returns-2)
+    (tie.spec whole-requires returns bump-while-at-requires same-length returns-2)

@@ -8,12 +8,9 @@ use Rattle.listed.proofs.nth_listed.Tie as tie
 whole-requires : tie.Need-whole-requires
 whole-requires c κs = search needs
 
-refuse-requires : tie.Need-refuse-requires
-refuse-requires c κs = search needs
-
 returns : tie.Need-returns
 unfolding listed
-returns c = rw (sym (c .before .before .whole .ensures) ∙ not-true _ (c .before .if1 .taken)) (rw (c .refuse .ensures) (refl, refl))
+returns c = rw (sym (c .before .whole .ensures) ∙ not-true _ (c .if1 .taken)) (refl, refl)
 
 nth-at-requires : tie.Need-nth-at-requires
 nth-at-requires c κs = search needs
@@ -24,4 +21,4 @@ returns-2 c = rw (sym (c .before .before .before .before .before .whole .ensures
 
 pub nth-listed-spec : {M : Type 1} → statement M
 nth-listed-spec =
-    tie.close (tie.spec whole-requires refuse-requires returns nth-at-requires returns-2)
+    tie.close (tie.spec whole-requires returns nth-at-requires returns-2)

@@ -8,12 +8,9 @@ use Rattle.listed.proofs.peek_listed.Tie as tie
 whole-requires : tie.Need-whole-requires
 whole-requires c κs = search needs
 
-refuse-requires : tie.Need-refuse-requires
-refuse-requires c κs = search needs
-
 returns : tie.Need-returns
 unfolding listed
-returns c = rw (sym (c .before .before .whole .ensures) ∙ not-true _ (c .before .if1 .taken)) (rw (c .refuse .ensures) (refl, refl))
+returns c = rw (sym (c .before .whole .ensures) ∙ not-true _ (c .if1 .taken)) (refl, refl)
 
 peek-at-requires : tie.Need-peek-at-requires
 peek-at-requires c κs = search needs
@@ -24,4 +21,4 @@ returns-2 c = rw (sym (c .before .before .before .before .before .whole .ensures
 
 pub peek-listed-spec : {M : Type 1} → statement M
 peek-listed-spec =
-    tie.close (tie.spec whole-requires refuse-requires returns peek-at-requires returns-2)
+    tie.close (tie.spec whole-requires returns peek-at-requires returns-2)

@@ -5,8 +5,8 @@ use borrow.Author.Needs.{needs}
 use borrow.Author.Tests.{not-false, not-true}
 use Rattle.looks.specs.Buffer.{fitsFor, stateOf}
 use Rattle.looks.proofs.Answers.{ready-for, refusal-0, refusal-30, refusal-31, refusal-34, sound-bounded}
-use Rattle.looks.proofs.show.fill_refusal.Statement.{statement}
-use Rattle.looks.proofs.show.fill_refusal.Tie as tie
+use Rattle.looks.proofs.ready.fill_refusal.Statement.{statement}
+use Rattle.looks.proofs.ready.fill_refusal.Tie as tie
 
 sound-requires : tie.Need-sound-requires
 sound-requires c κs = search needs

@@ -1,6 +1,6 @@
 use borrow.Author.Tests.{eq-eqb, ne-eqb}
-use Rattle.looks.proofs.look.is_kind.Statement.{statement}
-use Rattle.looks.proofs.look.is_kind.Tie as tie
+use Rattle.looks.proofs.tell.is_kind.Statement.{statement}
+use Rattle.looks.proofs.tell.is_kind.Tie as tie
 
 returns : tie.Need-returns
 returns c = rw (eq-eqb (c .before .args .kind) (c .before .args .wanted) (c .if1 .taken))

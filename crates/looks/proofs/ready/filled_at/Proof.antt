@@ -4,8 +4,8 @@ use native.Mathlib.Omega.{arith}
 use borrow.Author.Needs.{needs}
 use Rattle.looks.specs.Buffer.{gathers, stateOf}
 use Rattle.looks.proofs.Answers.{filled-no, filled-yes, ready-for, refusal-none, sound-bounded}
-use Rattle.looks.proofs.show.filled_at.Statement.{statement}
-use Rattle.looks.proofs.show.filled_at.Tie as tie
+use Rattle.looks.proofs.ready.filled_at.Statement.{statement}
+use Rattle.looks.proofs.ready.filled_at.Tie as tie
 
 fill-refusal-requires : tie.Need-fill-refusal-requires
 fill-refusal-requires c κs = search needs
