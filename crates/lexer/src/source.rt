@@ -1,7 +1,7 @@
 // The token of a source at a position: the shebang at 0, the source's end in refusal 12's span, and the tests before reading.
 use crate::cycle::read_token;
+use sound::Tested;
 use text::Scalar;
-use text::Tested;
 use token::Kind;
 use token::Read;
 ghost use mathlib.Core.Path.{_≡_};
@@ -54,7 +54,7 @@ pub fn next(s: &[u8], at: usize) -> Read
 pub fn read(s: &[u8], at: usize) -> Read
     ensures { λ r. ⌜ r ≡ readAt (now (s .entry)) at ⌝ }
 {
-    match text::test_position(s, at) {
+    match sound::test_position(s, at) {
         Tested::Sound => next(s, at),
         Tested::TooLong => token::refused(1, 0, 0, 0),
         Tested::IllFormed { at: bad } => token::refused(2, bad, bad, bad),

@@ -10,8 +10,8 @@ use Rattle.outline.specs.Shut.{isShut}
 use Rattle.outline.specs.declared.Outlined.{Outlined}
 use Rattle.outline.specs.declared.Outlined.the-variants.{Stopped, Whole}
 use Rattle.readers.specs.Rules.{Rules, base}
-use Rattle.text.specs.Source.{sourceTest}
-use Rattle.text.specs.declared.source.Tested.the-variants.{IllFormed, Misplaced, Sound, TooLong}
+use Rattle.sound.specs.Source.{sourceTest}
+use Rattle.sound.specs.declared.Tested.the-variants.{IllFormed, Misplaced, Sound, TooLong}
 use Rattle.token.specs.Reads.{pointOf}
 use Rattle.token.specs.declared.kind.Kind.{Kind}
 use Rattle.token.specs.declared.read.Refusal.{Refusal}

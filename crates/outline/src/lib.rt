@@ -1,5 +1,5 @@
 // A source with x over every byte inside its strings, byte strings, comments and templates, in a lent buffer. One pass, each token read once.
-use text::Tested;
+use sound::Tested;
 use token::Kind;
 use token::Read;
 use token::Refusal;
@@ -147,7 +147,7 @@ fn outline_fitting(s: &[u8], out: &mut [u8]) -> Outlined
 pub fn outline(s: &[u8], out: &mut [u8]) -> Outlined
     ensures { λ r. ⌜ (r ≡ outlineOf (now (s .entry)) (length (now (out .entry)))) × (now (out .exit) ≡ sets (now (out .entry)) 0 (writtenOf (now (s .entry)) (length (now (out .entry))))) ⌝ }
 {
-    match text::test_source(s) {
+    match sound::test_source(s) {
         Tested::Sound => outline_fitting(s, out),
         Tested::TooLong => refused_at(1, 0),
         Tested::IllFormed { at } => refused_at(2, at),

@@ -2,7 +2,7 @@
 use crate::buffer::put;
 use crate::buffer::put_bytes;
 use crate::buffer::put_decimal;
-use text::Tested;
+use sound::Tested;
 use token::Read;
 
 fn put_three(out: &mut [u8], waiting: usize, number: u32, start: usize, end: usize) -> usize {
@@ -52,7 +52,7 @@ fn list_tokens(s: &[u8], out: &mut [u8], waiting: usize) -> usize {
 }
 
 pub fn list(s: &[u8], out: &mut [u8], waiting: usize) -> usize {
-    match text::test_source(s) {
+    match sound::test_source(s) {
         Tested::Sound => list_tokens(s, out, waiting),
         Tested::TooLong => put_refused(out, waiting, 1, 0, 0),
         Tested::IllFormed { at } => put_refused(out, waiting, 2, at, at),

@@ -15,11 +15,11 @@ use Rattle.escapes.specs.declared.Escape.{Escape}
 use Rattle.escapes.specs.declared.Escape.the-variants.{Bad, Item, Skipped}
 use Rattle.laws.proofs.Cases.{never}
 use Rattle.laws.specs.Bools.{pick, same}
+use Rattle.sound.specs.Source.{sourceTest}
+use Rattle.sound.specs.declared.Tested.{Tested}
+use Rattle.sound.specs.declared.Tested.the-variants.{IllFormed, Misplaced, Sound, TooLong}
 use Rattle.text.proofs.Decode.{Step, rest-tail, width-pos}
-use Rattle.text.specs.Source.{sourceTest}
 use Rattle.text.specs.Utf8.{rest, width}
-use Rattle.text.specs.declared.source.Tested.{Tested}
-use Rattle.text.specs.declared.source.Tested.the-variants.{IllFormed, Misplaced, Sound, TooLong}
 use Rattle.unescape.proofs.Items.{Fits, item-fits}
 use Rattle.unescape.proofs.Lands.{Lands, item-lands, lands-le, lands-room, placeOf}
 use Rattle.unescape.proofs.Stores.{sets-append}

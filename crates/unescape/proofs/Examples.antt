@@ -6,7 +6,7 @@ use Rattle.classes.specs.Classes.{hexValue, whiteSpace}
 use Rattle.encoding.specs.Encode.{bytesOf, encodeOf}
 use Rattle.escapes.specs.Escapes.{byteEscape, byteTurn, charEscape, charTurn, digitsOf, hexOf, hexSecond, sharedOf, skipOf, unicodeOf}
 use Rattle.laws.specs.Tables.{inRanges}
-use Rattle.text.specs.Source.{soundTo, sourceTest}
+use Rattle.sound.specs.Source.{soundTo, sourceTest}
 use Rattle.text.specs.Utf8.{after, decode, first, from, leadOf, rest, width}
 use Rattle.unescape.specs.Bodies.{bodyOf, itemBytes, itemOf, judge, readOf, refuse, turnOf, unescapeOf, writtenOf, wrote}
 use Rattle.unescape.specs.declared.body.Form.{Form}

@@ -18,13 +18,13 @@ use Rattle.escapes.specs.declared.Escape.the-variants.{Bad, Item, Skipped}
 use Rattle.laws.proofs.Cases.{never, split, split-eq, split-le}
 use Rattle.laws.proofs.Determined.{determined}
 use Rattle.laws.specs.Bools.{same}
+use Rattle.sound.proofs.Places.{sound-inv}
+use Rattle.sound.specs.Source.{soundTo, sourceTest}
+use Rattle.sound.specs.declared.Tested.{Tested}
+use Rattle.sound.specs.declared.Tested.the-variants.{IllFormed, Misplaced, Sound, TooLong}
 use Rattle.text.proofs.Decode.{width-pos}
 use Rattle.text.proofs.Leads.{width-1}
-use Rattle.text.proofs.Places.{sound-inv}
-use Rattle.text.specs.Source.{soundTo, sourceTest}
 use Rattle.text.specs.Utf8.{after, decode, rest, width}
-use Rattle.text.specs.declared.source.Tested.{Tested}
-use Rattle.text.specs.declared.source.Tested.the-variants.{IllFormed, Misplaced, Sound, TooLong}
 use Rattle.token.specs.declared.read.Refusal.{Refusal}
 use Rattle.unescape.proofs.Bodies.{arrived, bodyAt, by-ending, item-high, item-low, item-plain, read-fault, read-whole, source-ill, source-long, source-misplaced, source-sound}
 use Rattle.unescape.proofs.Items.{Fits, byte-bytes, escape-fits, item-fits, scalar-bytes}

@@ -9,9 +9,9 @@ use Rattle.escapes.specs.Escapes.{byteEscape, charEscape}
 use Rattle.escapes.specs.declared.Escape.{Escape}
 use Rattle.escapes.specs.declared.Escape.the-variants.{Bad, Item, Skipped}
 use Rattle.laws.specs.Bools.{both, pick}
-use Rattle.text.specs.Source.{sourceTest}
+use Rattle.sound.specs.Source.{sourceTest}
+use Rattle.sound.specs.declared.Tested.the-variants.{IllFormed, Misplaced, Sound, TooLong}
 use Rattle.text.specs.Utf8.{rest, width}
-use Rattle.text.specs.declared.source.Tested.the-variants.{IllFormed, Misplaced, Sound, TooLong}
 use Rattle.token.specs.Reads.{spanOf}
 use Rattle.unescape.specs.declared.body.Form.{Form}
 use Rattle.unescape.specs.declared.body.Form.the-variants.{Byte, ByteText, Char, Template, Text}

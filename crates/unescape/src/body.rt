@@ -3,8 +3,8 @@ use encoding::Encoded;
 use escapes::Escape;
 use escapes::parse_byte_escape;
 use escapes::parse_char_escape;
+use sound::Tested;
 use text::Scalar;
-use text::Tested;
 use token::Refusal;
 use token::Span;
 use token::refusal::ILL_FORMED;
@@ -242,7 +242,7 @@ pub fn unescape(body: &[u8], form: Form, out: &mut [u8]) -> Unescaped
     ensures answer { λ r. ⌜ r ≡ unescapeOf form (now (body .entry)) (length (now (out .entry))) .answer ⌝ }
     ensures bytes { λ _. ⌜ now (out .exit) ≡ sets (now (out .entry)) 0 (unescapeOf form (now (body .entry)) (length (now (out .entry))) .bytes) ⌝ }
 {
-    match text::test_source(body) {
+    match sound::test_source(body) {
         Tested::Sound => unescape_sound(body, form, out),
         Tested::TooLong => refuse(TOO_LONG, 0, 0),
         Tested::IllFormed { at } => refuse(ILL_FORMED, at, at),
