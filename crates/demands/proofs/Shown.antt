@@ -7,6 +7,7 @@ use mathlib.Core.Logic.{⊎-elim}
 use native.Mathlib.Omega.{arith}
 use lib.Dec.{eqb}
 use lib.ListN.{length}
+use Rattle.choice.specs.Rule.{nextIs}
 use Rattle.demands.proofs.Flat.{Const, even-append, even-const, flat-all, flat-append, flat-none, wide-x}
 use Rattle.demands.proofs.Marked.{closes-far, form-closes, form-inside, form-opens, in-before, in-behind, in-middle, in-plain, opens-far, opens-no-bang, opens-no-dot, opens-some, plain-kind}
 use Rattle.demands.specs.Plain.{inBytes, plainToken}
@@ -21,13 +22,12 @@ use Rattle.families.specs.Places.{placeAfter}
 use Rattle.families.specs.Sane.{Sane}
 use Rattle.families.specs.Shape.{Form, Framed, Shaped, closeMark, openMark, xs}
 use Rattle.laws.proofs.Cases.{both-false, never, split}
-use Rattle.lexer.specs.Body.{tokenOf}
 use Rattle.lexer.specs.Next.{closeSpan, nextOf}
-use Rattle.choice.specs.Rule.{nextIs}
 use Rattle.numbers.specs.Kinds.{hasInside}
 use Rattle.outline.specs.Outline.{insideToken}
 use Rattle.readers.specs.Readers.{shut}
 use Rattle.readers.specs.Rules.{Rules, base}
+use Rattle.templates.specs.Body.{tokenOf}
 use Rattle.text.proofs.Decode.{width-pos}
 use Rattle.text.specs.Utf8.{width}
 use Rattle.token.specs.Reads.{reachedOf}

@@ -2,8 +2,8 @@ use mathlib.Core.Path.{sym, _∙_}
 use borrow.Author.Needs.{needs}
 use Rattle.lexer.proofs.Sources.{bang-cut, bang-end, bang-other, bang-second}
 use Rattle.text.proofs.Decode.{step-none, step-one}
-use Rattle.lexer.proofs.source.is_shebang.Statement.{statement}
-use Rattle.lexer.proofs.source.is_shebang.Tie as tie
+use Rattle.lexer.proofs.is_shebang.Statement.{statement}
+use Rattle.lexer.proofs.is_shebang.Tie as tie
 
 scalar-at-requires : tie.Need-scalar-at-requires
 scalar-at-requires c κs = search needs

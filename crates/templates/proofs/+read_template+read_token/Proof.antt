@@ -4,29 +4,29 @@ use mathlib.Core.Path.{_≡_, refl, sym, ap, _∙_}
 use native.Mathlib.Omega.{arith}
 use borrow.Author.Needs.{needs}
 use lib.ListN.{length}
-use Rattle.lexer.proofs.Turns.{after-deep, after-got, after-refused, body-close, body-down, body-end, body-other, body-up, body-within, deep-none, deep-some, down-is, reached-past, reached-room, token-deep, token-end, token-plain}
-use Rattle.lexer.specs.Body.{bodyOf, templateOf, tokenOf}
 use Rattle.readers.specs.Rules.{base}
+use Rattle.templates.proofs.Turns.{after-deep, after-got, after-refused, body-close, body-down, body-end, body-other, body-up, body-within, deep-none, deep-some, down-is, reached-past, reached-room, token-deep, token-end, token-plain}
+use Rattle.templates.specs.Body.{bodyOf, templateOf, tokenOf}
 use Rattle.text.proofs.Decode.{step-none, step-one}
 use Rattle.text.specs.Utf8.{first, rest}
 use Rattle.token.specs.Reads.{reachedOf}
 use Prim.Native.Nat.{ℕ, _<_}
 use borrow.Fn.Kinds.{In}
 use borrow.Fn.PlainCycle.{Measures, is, falls, and}
-use Rattle.lexer.proofs.cycle.read_template.Reads as read-template
-use Rattle.lexer.proofs.cycle.read_template.Kinds as read-template-kinds
-use Rattle.lexer.proofs.cycle.+read_template+read_token.Lts-read_template as read-template-lts
-use Rattle.lexer.proofs.cycle.read_token.Reads as read-token
-use Rattle.lexer.proofs.cycle.read_token.Kinds as read-token-kinds
-use Rattle.lexer.proofs.cycle.+read_template+read_token.Lts-read_token as read-token-lts
+use Rattle.templates.proofs.read_template.Reads as read-template
+use Rattle.templates.proofs.read_template.Kinds as read-template-kinds
+use Rattle.templates.proofs.+read_template+read_token.Lts-read_template as read-template-lts
+use Rattle.templates.proofs.read_token.Reads as read-token
+use Rattle.templates.proofs.read_token.Kinds as read-token-kinds
+use Rattle.templates.proofs.+read_template+read_token.Lts-read_token as read-token-lts
 use Rattle.choice.proofs.read_first.Reads as read-first-reads
 use Rattle.std.proofs.num.wrapping_add_u32.Reads as wrapping-add-u32-reads
 use Rattle.std.proofs.num.wrapping_sub_u32.Reads as wrapping-sub-u32-reads
 use Rattle.text.proofs.scalar_at.Reads as scalar-at-reads
 use Rattle.token.proofs.got.Reads as got-reads
 use Rattle.token.proofs.refused.Reads as refused-reads
-use Rattle.lexer.proofs.cycle.+read_template+read_token.{statement}
-use Rattle.lexer.proofs.cycle.+read_template+read_token.Tie.{close}
+use Rattle.templates.proofs.+read_template+read_token.{statement}
+use Rattle.templates.proofs.+read_template+read_token.Tie.{close}
 
 abbrev μ-read-template : Measures 1 read-template-kinds.ps ℕ
 μ-read-template κs a = 2 * a .1 .1 .1 .0 + 1

@@ -8,10 +8,10 @@ use lib.ListN.{length}
 use borrow.Author.Tests.{eq-eqb, le-ltb, ne-eqb}
 use Rattle.choice.proofs.Choice.{first-deep, first-plain}
 use Rattle.choice.specs.Rule.{firstOf, noTemplate, tokenWith}
-use Rattle.lexer.proofs.Landing.{body-skip, deepOf, token-lands, with-deep}
-use Rattle.lexer.specs.Body.{bodyOf, down, goOn, templateOf, tokenOf, turnOf, up}
 use Rattle.readers.proofs.Lands.{Lands, lands-le, lands-room}
 use Rattle.readers.specs.Rules.{base}
+use Rattle.templates.proofs.Landing.{body-skip, deepOf, token-lands, with-deep}
+use Rattle.templates.specs.Body.{bodyOf, down, goOn, templateOf, tokenOf, turnOf, up}
 use Rattle.text.proofs.Decode.{Step}
 use Rattle.text.specs.Utf8.{rest}
 use Rattle.token.specs.Reads.{gotOf, reachedOf, refusedOf}

@@ -2,8 +2,8 @@ use mathlib.Core.Path.{sym, _∙_}
 use borrow.Author.Needs.{needs}
 use Rattle.lexer.proofs.Sources.{read-case}
 use Rattle.sound.specs.declared.Tested.the-variants.{IllFormed, Misplaced, Sound, TooLong}
-use Rattle.lexer.proofs.source.read.Statement.{statement}
-use Rattle.lexer.proofs.source.read.Tie as tie
+use Rattle.lexer.proofs.read.Statement.{statement}
+use Rattle.lexer.proofs.read.Tie as tie
 
 test-position-requires : tie.Need-test-position-requires
 test-position-requires c κs = search needs

@@ -10,8 +10,8 @@ use Rattle.lexer.specs.Next.{closeSpan, isShebang}
 use Rattle.text.specs.Utf8.{rest}
 use Rattle.token.specs.Reads.{gotOf}
 use Rattle.token.specs.declared.kind.Kind.the-variants.{Shebang}
-use Rattle.lexer.proofs.source.next.Statement.{statement}
-use Rattle.lexer.proofs.source.next.Tie as tie
+use Rattle.lexer.proofs.next.Statement.{statement}
+use Rattle.lexer.proofs.next.Tie as tie
 
 is-shebang-requires : tie.Need-is-shebang-requires
 is-shebang-requires c κs = search needs

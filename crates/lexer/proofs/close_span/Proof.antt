@@ -1,8 +1,8 @@
 use mathlib.Core.Path.{sym, _∙_}
 use borrow.Author.Needs.{needs}
 use Rattle.lexer.proofs.Sources.{close-empty, close-got, close-other}
-use Rattle.lexer.proofs.source.close_span.Statement.{statement}
-use Rattle.lexer.proofs.source.close_span.Tie as tie
+use Rattle.lexer.proofs.close_span.Statement.{statement}
+use Rattle.lexer.proofs.close_span.Tie as tie
 
 enum-known-r : tie.Need-enum-known-r
 enum-known-r c = search needs

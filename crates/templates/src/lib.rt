@@ -4,8 +4,8 @@ use text::Scalar;
 use token::Kind;
 use token::Read;
 ghost use mathlib.Core.Path.{_≡_};
-ghost use Rattle.lexer.specs.Body.{templateOf, tokenOf};
 ghost use Rattle.readers.specs.Rules.{base};
+ghost use Rattle.templates.specs.Body.{templateOf, tokenOf};
 ghost use Rattle.text.specs.Utf8.{rest};
 
 // The token at a place, within which `depth` templates may still open, one inside the other.

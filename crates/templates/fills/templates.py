@@ -6,7 +6,7 @@ B = dict(M, at='(@loop .p)', l='(@loop .level)', t='(tokenOf base $d$)',
          body='$t$ $a$ $s$ $at$ $l$ $v$ $n$ $step$', go='bodyOf base $t$ $a$ 0 $cs$ $n$',
          tok='$d$ $a$ $s$ $at$ $l$ $v$ $n$ $step$ (@if5 .taken) (@read-token .result) (@read-token .ensures)')
 less = 'let k = $step$ in omega arith'
-cycle('cycle/+read_template+read_token', {
+cycle('+read_template+read_token', {
     'read_token': ('read-token-', {
         'returns': '@got .ensures ∙ token-end $d$ $s$ $at$ $none$',
         'returns-2': '@read-first .ensures ∙ token-plain $d$ $s$ $at$ $v$ $n$ $step$ (@if1 .taken)',

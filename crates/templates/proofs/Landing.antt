@@ -10,11 +10,11 @@ use borrow.Author.Tests.{le-ltb, lt-ltb}
 use Rattle.choice.proofs.Choice.{first-cases}
 use Rattle.choice.specs.Rule.{Deep, behindOne, firstOf, tokenWith}
 use Rattle.laws.proofs.Cases.{split}
-use Rattle.lexer.specs.Body.{bodyOf, down, goOn, templateOf, tokenOf, tooDeep, turnOf, up}
 use Rattle.operators.proofs.Ends.{operator-lands}
 use Rattle.readers.proofs.Lands.{Lands, byte-lands, char-lands, comment-lands, lands-here, lands-le, line-lands, number-lands, str-lands, white-lands, word-lands}
 use Rattle.readers.specs.Readers.{byteOf, commentOf, lineOf, strOf}
 use Rattle.readers.specs.Rules.{Rules, base}
+use Rattle.templates.specs.Body.{bodyOf, down, goOn, templateOf, tokenOf, tooDeep, turnOf, up}
 use Rattle.text.proofs.Decode.{rest-tail, width-pos}
 use Rattle.text.specs.Utf8.{rest, width}
 use Rattle.token.specs.Reads.{reachedOf}
