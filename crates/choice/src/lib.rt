@@ -18,7 +18,7 @@ fn read_left(s: &[u8], value: u32, start: usize, at: usize) -> Read
     if classes::is_xid_start(value) {
         return words::next_ident(s, value, start, at);
     }
-    if classes::is_ascii_digit(value) {
+    if digits::is_ascii_digit(value) {
         return words::next_number_literal(s, start, at);
     }
     if value == 39 {

@@ -6,7 +6,8 @@ use mathlib.Core.Bool.{Bool, true, false}
 use lib.Dec.{eqb}
 use borrow.Author.Tests.{eqb-true}
 use Rattle.choice.specs.Rule.{Deep, behindOne, firstOf, foundOr, leftOf, nextIs, otherOf}
-use Rattle.classes.specs.Classes.{isDigit, isWhiteSpace}
+use Rattle.classes.specs.Classes.{isWhiteSpace}
+use Rattle.digits.specs.Digits.{isDigit}
 use Rattle.laws.proofs.Cases.{both-inv, split}
 use Rattle.laws.specs.Bools.{both, pick}
 use Rattle.operators.specs.Operators.{operatorOf}

@@ -2,7 +2,8 @@
 use Prim.Native.Nat.{ℕ}
 use mathlib.Core.Path.{_≡_, refl}
 use mathlib.Core.List.{List, [], _∷_}
-use Rattle.classes.specs.Classes.{hexValue, whiteSpace}
+use Rattle.classes.specs.Classes.{whiteSpace}
+use Rattle.digits.specs.Digits.{hexValue}
 use Rattle.encoding.specs.Encode.{bytesOf, encodeOf}
 use Rattle.escapes.specs.Escapes.{byteEscape, byteTurn, charEscape, charTurn, digitsOf, hexOf, hexSecond, sharedOf, skipOf, unicodeOf}
 use Rattle.laws.specs.Tables.{inRanges}

@@ -7,7 +7,7 @@ use native.Mathlib.Omega.{arith}
 use lib.Dec.{leb, ltb, eqb}
 use lib.ListN.{length}
 use borrow.Author.Tests.{eq-eqb, eqb-true, leb-true, ltb-false, ne-eqb}
-use Rattle.classes.specs.Classes.{hexValue, isHexDigit}
+use Rattle.digits.specs.Digits.{hexValue, isHexDigit}
 use Rattle.encoding.proofs.Rows.{by-row, encode-length, encode-none, scalar-low}
 use Rattle.encoding.specs.Encode.{encodeOf, isScalar}
 use Rattle.escapes.proofs.Escapes.{hex-small}

@@ -7,7 +7,8 @@ use mathlib.Core.Logic.{inl, inr, _⊎_}
 use native.Mathlib.Omega.{arith}
 use lib.Dec.{leb, ltb, eqb}
 use lib.ListN.{length}
-use Rattle.classes.specs.Classes.{hexValue, isHexDigit, isWhiteSpace}
+use Rattle.classes.specs.Classes.{isWhiteSpace}
+use Rattle.digits.specs.Digits.{hexValue, isHexDigit}
 use Rattle.encoding.specs.Encode.{isScalar}
 use Rattle.escapes.specs.Escapes.{byteEscape, byteTurn, charEscape, charTurn, digitsOf, hexOf, hexSecond, lineEnd, lowOnly, sharedOf, shiftIn, skipOf, templateOf, unicodeOf}
 use Rattle.escapes.specs.declared.Escape.{Escape}

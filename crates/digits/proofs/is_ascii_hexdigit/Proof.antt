@@ -3,8 +3,8 @@ use native.Mathlib.Omega.{arith}
 use borrow.Author.Needs.{needs}
 use borrow.Author.Tests.{le-leb, lt-leb}
 use Rattle.laws.proofs.Cases.{both-false, either-false}
-use Rattle.classes.proofs.is_ascii_hexdigit.Statement.{statement}
-use Rattle.classes.proofs.is_ascii_hexdigit.Tie as tie
+use Rattle.digits.proofs.is_ascii_hexdigit.Statement.{statement}
+use Rattle.digits.proofs.is_ascii_hexdigit.Tie as tie
 
 is-ascii-digit-requires : tie.Need-is-ascii-digit-requires
 is-ascii-digit-requires c κs = search needs

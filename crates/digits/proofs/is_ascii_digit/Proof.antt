@@ -1,6 +1,6 @@
 use borrow.Author.Tests.{le-leb, lt-leb}
-use Rattle.classes.proofs.is_ascii_digit.Statement.{statement}
-use Rattle.classes.proofs.is_ascii_digit.Tie as tie
+use Rattle.digits.proofs.is_ascii_digit.Statement.{statement}
+use Rattle.digits.proofs.is_ascii_digit.Tie as tie
 
 returns : tie.Need-returns
 returns c = simp (lt-leb _ _ (c .if1 .taken))

@@ -2,9 +2,9 @@ use mathlib.Core.Path.{sym, _∙_}
 use native.Mathlib.Omega.{arith}
 use borrow.Author.Needs.{needs}
 use borrow.Author.Tests.{not-false, not-true}
-use Rattle.classes.proofs.Ascii.{hex-digit, hex-high, hex-low, hex-none}
-use Rattle.classes.proofs.hex_value.Statement.{statement}
-use Rattle.classes.proofs.hex_value.Tie as tie
+use Rattle.digits.proofs.Hex.{hex-digit, hex-high, hex-low, hex-none}
+use Rattle.digits.proofs.hex_value.Statement.{statement}
+use Rattle.digits.proofs.hex_value.Tie as tie
 
 is-ascii-hexdigit-requires : tie.Need-is-ascii-hexdigit-requires
 is-ascii-hexdigit-requires c κs = search needs
