@@ -36,7 +36,7 @@ use Rattle.token.specs.declared.read.Read.{Read}
 use Rattle.token.specs.declared.read.Read.the-variants.{Got, Refused}
 use Rattle.token.specs.declared.read.Token.{Token}
 use Rattle.tokens.proofs.Starred.{reads}
-use Rattle.outline.specs.Outline as shade
+use Rattle.marks.specs.Marks as kept
 
 pub in-bytes : (R : Rules) (f : List ℕ) (p : ℕ) → placeAfter (inBytes R) f p ≡ placeAfter base f p
 unfolding placeAfter
@@ -107,15 +107,15 @@ module _ (R : Rules) (n : ℕ) where
       hi : ℕ
       hi = placeAfter base (f .mid) lo
 
-      opens : length (shade.openMark (k .kind)) ≡ length o
+      opens : length (kept.openMark (k .kind)) ≡ length o
       unfolding o
-      opens = ap (λ (x : Kind). length (shade.openMark x)) (f .kind) ∙ ap length (form-opens (f .form))
+      opens = ap (λ (x : Kind). length (kept.openMark x)) (f .kind) ∙ ap length (form-opens (f .form))
 
-      closes : length (shade.closeMark (k .kind)) ≡ length c
+      closes : length (kept.closeMark (k .kind)) ≡ length c
       unfolding c
-      closes = ap (λ (x : Kind). length (shade.closeMark x)) (f .kind) ∙ ap length (form-closes (f .form))
+      closes = ap (λ (x : Kind). length (kept.closeMark x)) (f .kind) ∙ ap length (form-closes (f .form))
 
-      marked : p < k .span .start + length (shade.openMark (k .kind))
+      marked : p < k .span .start + length (kept.openMark (k .kind))
       unfolding o
       marked = omega (arith, opens, starts, opens-some (f .form))
 

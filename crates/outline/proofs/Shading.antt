@@ -12,8 +12,9 @@ use borrow.Author.Tests.{le-leb, le-ltb, lt-leb, lt-ltb, ltb-false, ltb-true}
 use Rattle.laws.proofs.Cases.{split}
 use Rattle.laws.specs.Bools.{both, pick, same}
 use Rattle.lexer.specs.Next.{nextAt}
+use Rattle.marks.specs.Marks.{closeMark, openMark}
 use Rattle.numbers.specs.Kinds.{hasInside}
-use Rattle.outline.specs.Outline.{answerOf, between, closeMark, insideAt, insideToken, openMark, outlineOf, outlined, paint, pointRefusal, writtenOf}
+use Rattle.outline.specs.Outline.{answerOf, between, insideAt, insideToken, outlineOf, outlined, paint, pointRefusal, writtenOf}
 use Rattle.outline.specs.declared.Outlined.{Outlined}
 use Rattle.outline.specs.declared.Outlined.the-variants.{Stopped, Whole}
 use Rattle.readers.specs.Rules.{base}

@@ -10,10 +10,10 @@ use borrow.Author.Tests.{eq-eqb, ne-eqb, not-true}
 use Rattle.laws.proofs.Cases.{never, split, split-eq, split-le, within-high, within-inv, within-yes}
 use Rattle.laws.specs.Bools.{either, pick, within}
 use Rattle.laws.specs.Tables.{everyBelow}
+use Rattle.marks.specs.Marks.{closeMark, openMark}
+use Rattle.marks.specs.Shut.{isShut}
 use Rattle.numbers.proofs.Inverse.{every-kind}
 use Rattle.numbers.specs.Kinds.{kinds, numberOf}
-use Rattle.outline.specs.Outline.{closeMark, openMark}
-use Rattle.outline.specs.Shut.{isShut}
 use Rattle.token.specs.declared.kind.Kind.{Kind}
 use denote.Enum.Declared as declared
 use Rattle.token.proofs.kind.Kind as kinded

@@ -4,9 +4,9 @@ use native.Mathlib.Omega.{arith}
 use borrow.Author.Needs.{needs}
 use Rattle.laws.proofs.Cases.{within-high, within-low}
 use Rattle.laws.specs.Bools.{pick}
-use Rattle.outline.proofs.Marks.{closes-comment, closes-none, closes-quote, closes-template}
-use Rattle.outline.proofs.closes.Statement.{statement}
-use Rattle.outline.proofs.closes.Tie as tie
+use Rattle.marks.proofs.Marks.{closes-comment, closes-none, closes-quote, closes-template}
+use Rattle.marks.proofs.closes.Statement.{statement}
+use Rattle.marks.proofs.closes.Tie as tie
 
 number-of-requires : tie.Need-number-of-requires
 number-of-requires c κs = search needs

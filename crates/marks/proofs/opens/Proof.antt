@@ -1,9 +1,9 @@
 use native.Mathlib.Omega.{arith}
 use borrow.Author.Needs.{needs}
 use Rattle.laws.proofs.Cases.{within-high, within-low}
-use Rattle.outline.proofs.Marks.{opens-b, opens-none, opens-one, opens-template, opens-two}
-use Rattle.outline.proofs.opens.Statement.{statement}
-use Rattle.outline.proofs.opens.Tie as tie
+use Rattle.marks.proofs.Marks.{opens-b, opens-none, opens-one, opens-template, opens-two}
+use Rattle.marks.proofs.opens.Statement.{statement}
+use Rattle.marks.proofs.opens.Tie as tie
 
 number-of-requires : tie.Need-number-of-requires
 number-of-requires c κs = search needs

@@ -2,11 +2,11 @@ use Prim.Native.Nat.{ℕ}
 use mathlib.Core.Path.{sym, ap, subst}
 use mathlib.Core.List.{[], _∷_}
 use borrow.Author.Needs.{needs}
-use Rattle.outline.proofs.Marks.{shut-other}
-use Rattle.outline.specs.Shut.{isShut}
+use Rattle.marks.proofs.Marks.{shut-other}
+use Rattle.marks.specs.Shut.{isShut}
 use types.Run.{OneOf, miss}
-use Rattle.outline.proofs.is_shut.Statement.{statement}
-use Rattle.outline.proofs.is_shut.Tie as tie
+use Rattle.marks.proofs.is_shut.Statement.{statement}
+use Rattle.marks.proofs.is_shut.Tie as tie
 
 enum-known-kind : tie.Need-enum-known-kind
 enum-known-kind c = search needs
