@@ -1,8 +1,8 @@
 use mathlib.Core.Path.{sym, ap}
 use mathlib.Core.Bool.{Bool}
 use Rattle.readers.specs.Readers.{strKind}
-use Rattle.quotes.proofs.strings.str_kind.Statement.{statement}
-use Rattle.quotes.proofs.strings.str_kind.Tie as tie
+use Rattle.strings.proofs.str_kind.Statement.{statement}
+use Rattle.strings.proofs.str_kind.Tie as tie
 
 returns : tie.Need-returns
 returns c = sym (ap (λ (b : Bool). strKind b (c .before .args .escaped)) (c .if1 .taken))

@@ -10,8 +10,8 @@ use Rattle.readers.specs.Rules.{base}
 use Rattle.readers.specs.Scan.{Stop, scan}
 use Rattle.text.proofs.Decode.{step-none, step-one}
 use Rattle.text.specs.Utf8.{first, rest}
-use Rattle.quotes.proofs.strings.next_lit_byte.Statement.{statement}
-use Rattle.quotes.proofs.strings.next_lit_byte.Tie as tie
+use Rattle.strings.proofs.next_lit_byte.Statement.{statement}
+use Rattle.strings.proofs.next_lit_byte.Tie as tie
 
 abbrev Inv-loop : tie.InvT-loop
 Inv-loop s start at first p₀ p = Goes byteStep body s p (scan byteStep base fresh at (rest s at) at)

@@ -13,8 +13,8 @@ use Rattle.text.proofs.Decode.{step-none, step-one}
 use Rattle.text.specs.Utf8.{rest}
 use Rattle.token.specs.Reads.{gotOf, refusedOf}
 use Rattle.token.specs.declared.kind.Kind.{Kind}
-use Rattle.quotes.proofs.strings.next_str.Statement.{statement}
-use Rattle.quotes.proofs.strings.next_str.Tie as tie
+use Rattle.strings.proofs.next_str.Statement.{statement}
+use Rattle.strings.proofs.next_str.Tie as tie
 
 abbrev Inv-loop : tie.InvT-loop
 Inv-loop s bytes start at p₀ escaped₀ p escaped = Goes strStep (text escaped) s p (scan strStep base (text false) at (rest s at) at)

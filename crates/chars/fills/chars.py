@@ -1,5 +1,5 @@
 V = '(@Start .args .v)'
-fill('chars/in_label', {
+fill('in_label', {
     'returns': f'simp (within-yes 48 57 {V} (omega arith) (omega arith))',
     'returns-2': f'simp (within-yes 97 122 {V} (omega arith) (omega arith), either-true)',
     'returns-3': f'simp (within-low 48 57 {V} (omega arith), within-low 97 122 {V} (omega arith))',
@@ -7,7 +7,7 @@ fill('chars/in_label', {
     'returns-5': f'simp (within-high 48 57 {V} (omega arith), within-high 97 122 {V} (omega arith))'})
 A = {'l': '(@Start .args .label)', 'm': '(@Start .args .some)', 'a': '(@Start .args .start)', 'e': '(@Start .args .end)',
      'at': '(λ (l m : Bool). charAnswer $a$ (letters l m) $e$ $e$)'}
-fill('chars/char_or_label', {
+fill('char_or_label', {
     'returns': '@refused .ensures ∙ sym (ap₂ $at$ (@if2 .taken) (not-true $m$ (@if1 .taken)))',
     'returns-2': '@refused2 .ensures ∙ sym (ap₂ $at$ (@if2 .left) (not-true $m$ (@if1 .taken)))',
     'returns-3': '@got .ensures ∙ sym (ap₂ $at$ (@if3 .taken) (not-false $m$ (@if1 .left)))',
@@ -22,7 +22,7 @@ M = {'s': '(@Start .args .s .now)', 'at': '(@Start .args .at)', 'a': '(@Start .a
      'go': 'charStep $st$ $s$ $p$ $whole$ $g$', 'is': '$l$ $m$ $v$ $cs$',
      'other': '(sym (@in-label .ensures) ∙ @if3 .left)', 'calm': '(sym (@is-control .ensures) ∙ @if4 .left)',
      'slash': '(char-slash $is$ (@if1 .left) (@if2 .taken))'}
-fill('chars/next_char_or_label', {
+fill('next_char_or_label', {
     'Inv-loop': 'Goes charStep (letters label some) s p (scan charStep base (letters true false) at (rest s at) at)', 'μ-loop': 'length s - p',
     'loop-holds': '($at$, refl)',
     'returns': ('charOf', '@char-or-label .ensures ∙ answer-last $a$ $l$ $m$ $p$ ($g$ .0) $p$ ∙ ap $read$ (goes-end $go$ (step-none $s$ $p$ (sym (@scalar-at .ensures) ∙ @enum-told .given .1)))'),

@@ -6,7 +6,7 @@ B = dict(M, one='(step-one $s$ $at$ (@first .given .0 .0) (@first .given .0 .1 .
          two='(step-one $s$ $n$ (@after .given .0 .0) (@after .given .0 .1 .0) (sym (@scalar-at3 .ensures) ∙ @after .given .1))',
          read='(λ (o : Stop Bytes). byteAnswer $a$ (o .state) (o .last) (o .place) (o .how))',
          whole='(scan byteStep base fresh $at$ (rest $s$ $at$) $at$)')
-fill('strings/next_lit_byte', {
+fill('next_lit_byte', {
     'Inv-loop': 'Goes byteStep body s p (scan byteStep base fresh at (rest s at) at)', 'μ-loop': 'length s - p',
     'returns': ('byteOf', '@refused .ensures ∙ ap $read$ (scan-end byteStep fresh $at$ $s$ $at$ (step-none $s$ $at$ (sym (@scalar-at .ensures) ∙ @enum-told .given .1)))'),
     'loop-holds': ('byteStep', 'goes-on byteStep fresh $s$ $at$ $whole$ ($at$, refl) _ _ $one$ body refl'),
@@ -18,7 +18,7 @@ fill('strings/next_lit_byte', {
     'returns-5': ('byteOf', '@refused4 .ensures ∙ ap $read$ (goes-behind byteStep body $s$ $p$ $whole$ $g$ $v$ $n$ $step$ control (byte-control $v$ $cs$ (@if1 .left) (@if2 .left) (sym (@is-control .ensures) ∙ @if3 .taken)))'),
     'loop-less-2': 'let t = $step$ in omega arith',
     'loop-again-2': 'goes-on byteStep body $s$ $p$ $whole$ $g$ $v$ $n$ $step$ body (byte-more $v$ $cs$ (@if1 .left) (@if2 .left) (sym (@is-control .ensures) ∙ @if3 .left))'}, macros=B)
-fill('strings/str_kind', {
+fill('str_kind', {
     'returns': 'sym (ap (λ (b : Bool). strKind b (@Start .args .escaped)) (@if1 .taken))',
     'returns-2': 'sym (ap (λ (b : Bool). strKind b (@Start .args .escaped)) (@if1 .left))'})
 Q = dict(M, b='(@Start .args .bytes)', e='(@loop .escaped)', st='(text $e$)',
@@ -27,7 +27,7 @@ Q = dict(M, b='(@Start .args .bytes)', e='(@loop .escaped)', st='(text $e$)',
          two='(step-one $s$ $n$ (@after .given .0 .0) (@after .given .0 .1 .0) (sym (@scalar-at2 .ensures) ∙ @after .given .1))',
          read='(λ (o : Stop Quoted). strAnswer $b$ $a$ (o .state) (o .last) (o .place) (o .how))',
          whole='(scan strStep base (text false) $at$ (rest $s$ $at$) $at$)')
-fill('strings/next_str', {
+fill('next_str', {
     'Inv-loop': 'Goes strStep (text escaped) s p (scan strStep base (text false) at (rest s at) at)', 'μ-loop': 'length s - p',
     'loop-holds': '($at$, refl)',
     'returns': ('strOf', '@refused .ensures ∙ ap (λ (k : ℕ). refusedOf k $a$ $p$ $p$) (@str-number .ensures) ∙ ap $read$ (goes-end strStep $st$ $s$ $p$ $whole$ $g$ $ends$)'),

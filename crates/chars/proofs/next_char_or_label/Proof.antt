@@ -12,8 +12,8 @@ use Rattle.readers.specs.Rules.{base}
 use Rattle.readers.specs.Scan.{Stop, scan}
 use Rattle.text.proofs.Decode.{step-none, step-one}
 use Rattle.text.specs.Utf8.{rest}
-use Rattle.quotes.proofs.chars.next_char_or_label.Statement.{statement}
-use Rattle.quotes.proofs.chars.next_char_or_label.Tie as tie
+use Rattle.chars.proofs.next_char_or_label.Statement.{statement}
+use Rattle.chars.proofs.next_char_or_label.Tie as tie
 
 abbrev Inv-loop : tie.InvT-loop
 Inv-loop s start at p₀ label₀ some₀ p label some = Goes charStep (letters label some) s p (scan charStep base (letters true false) at (rest s at) at)

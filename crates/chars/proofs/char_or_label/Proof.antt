@@ -3,8 +3,8 @@ use mathlib.Core.Bool.{Bool}
 use borrow.Author.Needs.{needs}
 use borrow.Author.Tests.{not-false, not-true}
 use Rattle.readers.specs.Readers.{charAnswer, letters}
-use Rattle.quotes.proofs.chars.char_or_label.Statement.{statement}
-use Rattle.quotes.proofs.chars.char_or_label.Tie as tie
+use Rattle.chars.proofs.char_or_label.Statement.{statement}
+use Rattle.chars.proofs.char_or_label.Tie as tie
 
 refused-requires : tie.Need-refused-requires
 refused-requires c κs = search needs

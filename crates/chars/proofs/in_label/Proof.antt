@@ -1,7 +1,7 @@
 use native.Mathlib.Omega.{arith}
 use Rattle.laws.proofs.Cases.{either-true, within-high, within-low, within-yes}
-use Rattle.quotes.proofs.chars.in_label.Statement.{statement}
-use Rattle.quotes.proofs.chars.in_label.Tie as tie
+use Rattle.chars.proofs.in_label.Statement.{statement}
+use Rattle.chars.proofs.in_label.Tie as tie
 
 returns : tie.Need-returns
 returns c = simp (within-yes 48 57 (c .before .before .args .v) (omega arith) (omega arith))
