@@ -3,8 +3,8 @@ use mathlib.Core.Path.{sym}
 use native.Mathlib.Omega.{arith}
 use borrow.Author.Needs.{needs}
 use lib.Seq.{length-take-le}
-use Rattle.printing.proofs.buffer.flush.Statement.{statement}
-use Rattle.printing.proofs.buffer.flush.Tie as tie
+use Rattle.buffer.proofs.flush.Statement.{statement}
+use Rattle.buffer.proofs.flush.Tie as tie
 
 slice-aggregate-write-all : tie.Need-slice-aggregate-write-all
 slice-aggregate-write-all c = let h = sym (length-take-le (c .before .before .before .args .waiting) (c .before .before .before .args .out .now) (omega (arith, c .before .if1 .taken))) in search needs

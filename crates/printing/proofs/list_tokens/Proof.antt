@@ -5,8 +5,8 @@ use native.Mathlib.Omega.{arith}
 use borrow.Author.Needs.{needs}
 use lib.ListN.{length}
 use Rattle.tokens.proofs.Steps.{tokens-past, tokens-room}
-use Rattle.printing.proofs.listing.list_tokens.Statement.{statement}
-use Rattle.printing.proofs.listing.list_tokens.Tie as tie
+use Rattle.printing.proofs.list_tokens.Statement.{statement}
+use Rattle.printing.proofs.list_tokens.Tie as tie
 
 abbrev Inv-loop : tie.InvT-loop
 Inv-loop s out₀ waiting waiting₀ at₀ count₀ out waiting' at count = (at ≤ length s) × (count ≤ at) × (length out ≡ length out₀)

@@ -1,24 +1,25 @@
-use Prim.Native.Nat.{_-_, _≤_}
+-- The bytes left fall, and the buffer keeps its length. Assumes nothing.
+use Prim.Native.Nat.{_-_}
 use mathlib.Core.Path.{_≡_}
 use borrow.Author.Needs.{needs}
 use lib.ListN.{length}
-use Rattle.replay_escape.proofs.emit_all.Statement.{statement}
-use Rattle.replay_escape.proofs.emit_all.Tie as tie
+use Rattle.buffer.proofs.put_bytes.Statement.{statement}
+use Rattle.buffer.proofs.put_bytes.Tie as tie
 
 abbrev Inv-loop : tie.InvT-loop
-Inv-loop out₀ n bytes k₀ i₀ out k i = (i ≤ length bytes) × (length out ≡ length out₀)
+Inv-loop out₀ waiting bytes waiting₀ i₀ out waiting' i = length out ≡ length out₀
 
 abbrev μ-loop : tie.MeasureT-loop
-μ-loop out₀ n bytes k₀ i₀ out k i = length bytes - i
+μ-loop out₀ waiting bytes waiting₀ i₀ out waiting' i = length bytes - i
 
 loop-holds : tie.Need-loop-holds Inv-loop μ-loop
 loop-holds c = search needs
 
-shared-slice-read-emit : tie.Need-shared-slice-read-emit Inv-loop μ-loop
-shared-slice-read-emit c = search needs
+shared-slice-read-put : tie.Need-shared-slice-read-put Inv-loop μ-loop
+shared-slice-read-put c = search needs
 
-emit-requires : tie.Need-emit-requires Inv-loop μ-loop
-emit-requires c κs = search needs
+put-requires : tie.Need-put-requires Inv-loop μ-loop
+put-requires c κs = search needs
 
 add-i : tie.Need-add-i Inv-loop μ-loop
 add-i c = search needs
@@ -35,15 +36,15 @@ same-length c = search needs
 returns : tie.Need-returns Inv-loop μ-loop
 returns c = search needs
 
-pub emit-all-spec : {M : Type 1} → statement M
-emit-all-spec =
+pub put-bytes-spec : {M : Type 1} → statement M
+put-bytes-spec =
     tie.close
     (tie.spec
     Inv-loop
     μ-loop
     loop-holds
-    shared-slice-read-emit
-    emit-requires
+    shared-slice-read-put
+    put-requires
     add-i
     loop-less
     loop-again
