@@ -13,13 +13,13 @@ use Rattle.encoding.specs.Encode.{isScalar}
 use Rattle.escapes.specs.Escapes.{byteEscape, byteTurn, charEscape, charTurn, digitsOf, hexOf, hexSecond, lineEnd, lowOnly, sharedOf, shiftIn, skipOf, templateOf, unicodeOf}
 use Rattle.escapes.specs.declared.Escape.{Escape}
 use Rattle.escapes.specs.declared.Escape.the-variants.{Bad, Item, Skipped}
+use Rattle.items.specs.Items.{escapeOf, isBytes, isSingle, isTemplate, itemOf, plainOf}
+use Rattle.items.specs.declared.Form.{Form}
 use Rattle.laws.proofs.Cases.{split}
 use Rattle.laws.specs.Bools.{both, pick}
 use Rattle.text.proofs.Decode.{rest-room, rest-tail}
 use Rattle.text.specs.Utf8.{rest, width}
 use Rattle.token.specs.declared.kind.Kind.the-variants.{At}
-use Rattle.unescape.specs.Bodies.{escapeOf, isBytes, isSingle, isTemplate, itemOf, plainOf}
-use Rattle.unescape.specs.declared.body.Form.{Form}
 
 -- r is the place of one of the scalars cs, the first of which stands at p, or of their end
 abbrev pub Lands : List ℕ → ℕ → ℕ → Type 0

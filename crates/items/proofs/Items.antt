@@ -14,14 +14,14 @@ use Rattle.escapes.proofs.Escapes.{hex-small}
 use Rattle.escapes.specs.Escapes.{byteEscape, byteTurn, charEscape, charTurn, closeOf, digitsOf, hexOf, hexSecond, lineEnd, lowOnly, sharedOf, shiftIn, templateOf, unicodeOf}
 use Rattle.escapes.specs.declared.Escape.{Escape}
 use Rattle.escapes.specs.declared.Escape.the-variants.{Bad, Item, Skipped}
+use Rattle.items.proofs.Lands.{lands-le, low-lands, pick-by, pick-of, placeOf, shared-place}
+use Rattle.items.specs.Items.{escapeOf, isBytes, isSingle, isTemplate, itemBytes, itemOf, plainOf}
+use Rattle.items.specs.declared.Form.{Form}
 use Rattle.laws.proofs.Cases.{never, split, split-eq}
 use Rattle.laws.specs.Bools.{pick}
 use Rattle.text.proofs.Decode.{width-pos}
 use Rattle.text.proofs.Leads.{width-1, width-2, width-3, width-4}
 use Rattle.text.specs.Utf8.{width}
-use Rattle.unescape.proofs.Lands.{lands-le, low-lands, pick-by, pick-of, placeOf, shared-place}
-use Rattle.unescape.specs.Bodies.{escapeOf, isBytes, isSingle, isTemplate, itemBytes, itemOf, plainOf}
-use Rattle.unescape.specs.declared.body.Form.{Form}
 
 pub width-most : (v : ℕ) → width v ≤ 4
 width-most v =

@@ -1,8 +1,8 @@
 use mathlib.Core.Path.{sym, _∙_}
 use borrow.Author.Needs.{needs}
-use Rattle.unescape.proofs.Bodies.{item-byte, item-char, item-high, item-low, item-plain}
-use Rattle.unescape.proofs.body.item_at.Statement.{statement}
-use Rattle.unescape.proofs.body.item_at.Tie as tie
+use Rattle.items.proofs.Begins.{item-byte, item-char, item-high, item-low, item-plain}
+use Rattle.items.proofs.item_at.Statement.{statement}
+use Rattle.items.proofs.item_at.Tie as tie
 
 is-bytes-requires : tie.Need-is-bytes-requires
 is-bytes-requires c κs = search needs
