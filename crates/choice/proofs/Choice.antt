@@ -6,7 +6,8 @@ use mathlib.Core.Bool.{Bool, true, false}
 use lib.Dec.{eqb}
 use borrow.Author.Tests.{eq-eqb, ne-eqb}
 use Rattle.choice.specs.Rule.{Deep, behindOne, firstOf, foundOr, leftOf, nextIs, noTemplate, otherOf}
-use Rattle.classes.specs.Classes.{isDigit, isWhiteSpace, isXidStart, whiteSpace, xidStart}
+use Rattle.classes.specs.Classes.{isWhiteSpace, isXidStart, whiteSpace, xidStart}
+use Rattle.digits.specs.Digits.{isDigit}
 use Rattle.laws.proofs.Cases.{both-false, split}
 use Rattle.laws.specs.Bools.{both, pick}
 use Rattle.laws.specs.Tables.{inRanges}

@@ -3,7 +3,8 @@ use Prim.Native.Nat.{ℕ, _+_}
 use mathlib.Core.List.{List, [], _∷_}
 use mathlib.Core.Bool.{Bool, true, false}
 use lib.Dec.{eqb}
-use Rattle.classes.specs.Classes.{isDigit, isWhiteSpace}
+use Rattle.classes.specs.Classes.{isWhiteSpace}
+use Rattle.digits.specs.Digits.{isDigit}
 use Rattle.laws.specs.Bools.{both, pick}
 use Rattle.operators.specs.Operators.{operatorOf}
 use Rattle.operators.specs.declared.Operator.{Operator}

@@ -18,11 +18,11 @@ fn read_left(s: &[u8], value: u32, start: usize, at: usize) -> Read
     if classes::is_xid_start(value) {
         return words::next_ident(s, value, start, at);
     }
-    if classes::is_ascii_digit(value) {
+    if digits::is_ascii_digit(value) {
         return words::next_number_literal(s, start, at);
     }
     if value == 39 {
-        return quotes::next_char_or_label(s, start, at);
+        return chars::next_char_or_label(s, start, at);
     }
     token::refused(18, start, at, at)
 }
@@ -60,10 +60,10 @@ fn read_b(s: &[u8], start: usize, at: usize) -> Read
         return read_other(s, 98, start, at);
     };
     if value == 39 {
-        return quotes::next_lit_byte(s, start, next);
+        return strings::next_lit_byte(s, start, next);
     }
     if value == 34 {
-        return quotes::next_str(s, true, start, next);
+        return strings::next_str(s, true, start, next);
     }
     read_other(s, 98, start, at)
 }
@@ -75,7 +75,7 @@ pub fn read_first(s: &[u8], value: u32, start: usize, at: usize) -> Read
         return token::got(Kind::Whitespace, start, readers::consume_whitespace(s, at));
     }
     match value {
-        34 => quotes::next_str(s, false, start, at),
+        34 => strings::next_str(s, false, start, at),
         47 => read_slash(s, start, at),
         98 => read_b(s, start, at),
         _ => read_other(s, value, start, at),

@@ -1,8 +1,8 @@
 -- Document 01's classes of scalars: White_Space and the word letters are tables of ranges, first and last by turns.
-use Prim.Native.Nat.{ℕ, _+_, _-_}
+use Prim.Native.Nat.{ℕ}
 use mathlib.Core.List.{List, [], _∷_}
 use mathlib.Core.Bool.{Bool}
-use Rattle.laws.specs.Bools.{either, pick, within}
+use Rattle.laws.specs.Bools.{either, within}
 use Rattle.laws.specs.Tables.{inRanges}
 
 -- White_Space
@@ -27,27 +27,6 @@ isWhiteSpace v = inRanges whiteSpace v
 -- a control (the rules of `'` and `b'`)
 abbrev pub isControl : ℕ → Bool
 isControl v = either (within 0x0000 0x001f v) (within 0x007f 0x009f v)
-
--- a digit, 0-9
-abbrev pub isDigit : ℕ → Bool
-isDigit v = within 0x30 0x39 v
-
--- a-f and A-F
-abbrev pub isLowHex : ℕ → Bool
-isLowHex v = within 0x61 0x66 v
-
-abbrev pub isHighHex : ℕ → Bool
-isHighHex v = within 0x41 0x46 v
-
--- a hex digit
-abbrev pub isHexDigit : ℕ → Bool
-isHexDigit v = either (isDigit v) (either (isLowHex v) (isHighHex v))
-
--- what a hex digit stands for; 0 for every other scalar
-unfoldable pub hexValue : ℕ → ℕ
-hexValue v =
-    pick (isDigit v) (v - 0x30)
-    (pick (isLowHex v) (v - 0x61 + 10) (pick (isHighHex v) (v - 0x41 + 10) 0))
 
 -- XID_Start up to U+024F; no scalar above is a word letter
 unfoldable pub xidStart : List ℕ

@@ -2,7 +2,7 @@
 ghost use Prim.Native.Nat.{_<_};
 ghost use mathlib.Core.Path.{_≡_};
 ghost use mathlib.Core.Bool.{true};
-ghost use Rattle.classes.specs.Classes.{hexValue, isControl, isDigit, isHexDigit, isWhiteSpace, isXidContinue, isXidStart};
+ghost use Rattle.classes.specs.Classes.{isControl, isWhiteSpace, isXidContinue, isXidStart};
 ghost use Rattle.laws.specs.Tables.{inRanges, ordered};
 
 const WHITE_SPACE: [u32; 22] = [
@@ -124,46 +124,6 @@ pub fn is_control(v: u32) -> bool
     v <= 0x9f
 }
 
-pub fn is_ascii_digit(v: u32) -> bool
-    ensures { λ r. ⌜ r ≡ isDigit v ⌝ }
-{
-    if v < 0x30 {
-        return false;
-    }
-    v <= 0x39
-}
-
-pub fn is_ascii_hexdigit(v: u32) -> bool
-    ensures { λ r. ⌜ r ≡ isHexDigit v ⌝ }
-{
-    if is_ascii_digit(v) {
-        return true;
-    }
-    if 0x61 <= v {
-        return v <= 0x66;
-    }
-    if v < 0x41 {
-        return false;
-    }
-    v <= 0x46
-}
-
-// The value of a hex digit; 0 for what is none.
-pub fn hex_value(v: u32) -> u32
-    ensures { λ r. ⌜ r ≡ hexValue v ⌝ }
-{
-    if !is_ascii_hexdigit(v) {
-        return 0;
-    }
-    if v <= 0x39 {
-        return v - 0x30;
-    }
-    if v <= 0x46 {
-        return v - 0x41 + 10;
-    }
-    v - 0x61 + 10
-}
-
 // Small letters come first here and below: most of a text is made of them.
 fn ascii_start(v: u32) -> bool
     ensures { λ r. ⌜ (v < 0x80 → r ≡ isXidStart v) ⌝ }
@@ -195,7 +155,7 @@ fn ascii_continue(v: u32) -> bool
     if v == 0x5f {
         return true;
     }
-    is_ascii_digit(v)
+    digits::is_ascii_digit(v)
 }
 
 pub fn is_xid_continue(v: u32) -> bool

@@ -10,9 +10,9 @@ use Rattle.listing.specs.Listing.{listOf, storedOf}
 use Rattle.listing.specs.declared.Listed.{Listed}
 use Rattle.outline.specs.Outline.{outlineOf, writtenOf}
 use Rattle.outline.specs.declared.Outlined.{Outlined}
-use Rattle.text.specs.Source.{positionTest, sourceTest}
+use Rattle.sound.specs.Source.{positionTest, sourceTest}
+use Rattle.sound.specs.declared.Tested.{Tested}
 use Rattle.text.specs.Utf8.{scalarAt}
-use Rattle.text.specs.declared.source.Tested.{Tested}
 use Rattle.text.specs.declared.utf8.Scalar.{Scalar}
 use Rattle.token.specs.declared.read.Read.{Read}
 

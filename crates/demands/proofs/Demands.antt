@@ -11,8 +11,8 @@ use Rattle.listing.proofs.Counted.{countIn, counted, three-words}
 use Rattle.listing.specs.Listing.{listOf, storedOf}
 use Rattle.outline.specs.Outline.{insideAt, outlined, writtenOf}
 use Rattle.readers.specs.Rules.{base}
-use Rattle.text.specs.Source.{sourceTest}
-use Rattle.text.specs.declared.source.Tested.the-variants.{Sound}
+use Rattle.sound.specs.Source.{sourceTest}
+use Rattle.sound.specs.declared.Tested.the-variants.{Sound}
 use Rattle.tokens.proofs.Cover.{covers}
 use Rattle.tokens.specs.Tokens.{Covers, countOf, tokensAt}
 

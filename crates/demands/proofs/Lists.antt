@@ -15,10 +15,10 @@ use Rattle.listing.specs.Listing.{answerOf, listOf, storedOf, wordsOf}
 use Rattle.numbers.proofs.Inverse.{plain-number}
 use Rattle.outline.specs.Outline.{outlineOf, outlined, writtenOf}
 use Rattle.readers.specs.Rules.{Rules, base}
-use Rattle.text.proofs.Places.{sound-inv}
-use Rattle.text.specs.Source.{soundTo, sourceTest}
+use Rattle.sound.proofs.Places.{sound-inv}
+use Rattle.sound.specs.Source.{soundTo, sourceTest}
+use Rattle.sound.specs.declared.Tested.the-variants.{Sound}
 use Rattle.text.specs.Utf8.{width}
-use Rattle.text.specs.declared.source.Tested.the-variants.{Sound}
 use Rattle.tokens.specs.Tokens.{Tokens, countOf, fin, halt, more, tokensAt}
 use Rattle.outline.specs.Outline as shade
 

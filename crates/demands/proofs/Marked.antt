@@ -7,38 +7,38 @@ use native.Mathlib.Omega.{arith}
 use lib.Dec.{leb}
 use lib.ListN.{length}
 use borrow.Author.Tests.{le-leb, le-ltb, lt-leb, lt-ltb, ne-eqb}
+use Rattle.choice.specs.Rule.{nextIs}
 use Rattle.families.specs.Places.{placeAfter}
 use Rattle.families.specs.Shape.{Form, closeMark, commentForm, formKind, lineForm, openMark, stringForm, templateForm}
 use Rattle.laws.proofs.Cases.{both-false, never, split-eq}
 use Rattle.lexer.specs.Next.{isShebang}
-use Rattle.choice.specs.Rule.{nextIs}
+use Rattle.marks.specs.Shut.{isShut}
 use Rattle.numbers.specs.Kinds.{hasInside, numberOf, plainKind}
 use Rattle.outline.specs.Outline.{insideToken}
-use Rattle.outline.specs.Shut.{isShut}
 use Rattle.readers.specs.Rules.{base}
 use Rattle.text.specs.Utf8.{width}
 use Rattle.token.specs.declared.kind.Kind.{Kind}
 use Rattle.token.specs.declared.read.Token.{Token}
-use Rattle.outline.specs.Outline as shade
+use Rattle.marks.specs.Marks as kept
 
 module _ (k : Token) (i : ℕ) where
   pub in-plain : hasInside (k .kind) ≡ false → insideToken k i ≡ false
   unfolding insideToken
   in-plain h = rw h
 
-  pub in-before : i < k .span .start + length (shade.openMark (k .kind)) → insideToken k i ≡ false
+  pub in-before : i < k .span .start + length (kept.openMark (k .kind)) → insideToken k i ≡ false
   unfolding insideToken
-  in-before h = rw (lt-leb (k .span .start + length (shade.openMark (k .kind))) i h) (both-false (hasInside (k .kind)))
+  in-before h = rw (lt-leb (k .span .start + length (kept.openMark (k .kind))) i h) (both-false (hasInside (k .kind)))
 
-  pub in-behind : k .span .end ≤ i + length (shade.closeMark (k .kind)) → insideToken k i ≡ false
+  pub in-behind : k .span .end ≤ i + length (kept.closeMark (k .kind)) → insideToken k i ≡ false
   unfolding insideToken
   in-behind h =
-      rw (le-ltb (i + length (shade.closeMark (k .kind))) (k .span .end) h, both-false (leb (k .span .start + length (shade.openMark (k .kind))) i))
+      rw (le-ltb (i + length (kept.closeMark (k .kind))) (k .span .end) h, both-false (leb (k .span .start + length (kept.openMark (k .kind))) i))
       (both-false (hasInside (k .kind)))
 
-  pub in-middle : hasInside (k .kind) ≡ true → k .span .start + length (shade.openMark (k .kind)) ≤ i → i + length (shade.closeMark (k .kind)) < k .span .end → insideToken k i ≡ true
+  pub in-middle : hasInside (k .kind) ≡ true → k .span .start + length (kept.openMark (k .kind)) ≤ i → i + length (kept.closeMark (k .kind)) < k .span .end → insideToken k i ≡ true
   unfolding insideToken
-  in-middle h l u = rw (h, le-leb (k .span .start + length (shade.openMark (k .kind))) i l, lt-ltb (i + length (shade.closeMark (k .kind))) (k .span .end) u)
+  in-middle h l u = rw (h, le-leb (k .span .start + length (kept.openMark (k .kind))) i l, lt-ltb (i + length (kept.closeMark (k .kind))) (k .span .end) u)
 
 -- the marks by kind and by form, in bytes
 pub form-inside : (f : Form) → hasInside (formKind f) ≡ true
@@ -52,8 +52,8 @@ form-inside (stringForm false true) = refl
 form-inside (stringForm false false) = refl
 form-inside (templateForm c) = refl
 
-pub form-opens : (f : Form) → shade.openMark (formKind f) ≡ openMark f
-unfolding shade.openMark numberOf
+pub form-opens : (f : Form) → kept.openMark (formKind f) ≡ openMark f
+unfolding kept.openMark numberOf
 form-opens lineForm = refl
 form-opens (commentForm true) = refl
 form-opens (commentForm false) = refl
@@ -63,8 +63,8 @@ form-opens (stringForm false true) = refl
 form-opens (stringForm false false) = refl
 form-opens (templateForm c) = refl
 
-pub form-closes : (f : Form) → shade.closeMark (formKind f) ≡ closeMark f
-unfolding shade.closeMark numberOf isShut
+pub form-closes : (f : Form) → kept.closeMark (formKind f) ≡ closeMark f
+unfolding kept.closeMark numberOf isShut
 form-closes lineForm = refl
 form-closes (commentForm true) = refl
 form-closes (commentForm false) = refl

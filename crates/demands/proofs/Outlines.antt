@@ -19,7 +19,7 @@ use Rattle.laws.specs.Bools.{pick}
 use Rattle.outline.proofs.Shading.{paint-length}
 use Rattle.outline.specs.Outline.{insideAt, outlined, paint}
 use Rattle.readers.specs.Rules.{Rules}
-use Rattle.text.specs.Source.{soundTo}
+use Rattle.sound.specs.Source.{soundTo}
 use Rattle.text.specs.Utf8.{after, rest, width}
 use Rattle.tokens.specs.Tokens.{Tokens, tokensAt, tokensOf}
 

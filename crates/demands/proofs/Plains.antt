@@ -6,13 +6,13 @@ use borrow.Author.Tests.{ne-eqb}
 use Rattle.demands.specs.Plain.{plainToken, plainTokens}
 use Rattle.families.specs.Shape.{closeMark, openMark}
 use Rattle.laws.proofs.Cases.{split, split-eq}
+use Rattle.marks.specs.Shut.{isShut}
 use Rattle.numbers.specs.Kinds.{numberOf, plainKind}
 use Rattle.outline.specs.Outline.{insideAt, insideToken}
-use Rattle.outline.specs.Shut.{isShut}
 use Rattle.token.specs.declared.kind.Kind.{Kind}
 use Rattle.token.specs.declared.read.Token.{Token}
 use Rattle.tokens.specs.Tokens.{Tokens, fin, halt, more}
-use Rattle.outline.specs.Outline as shade
+use Rattle.marks.specs.Marks as kept
 
 module _ (k : Kind) where
   plain-twice : plainKind (plainKind k) ≡ plainKind k
@@ -29,7 +29,7 @@ plain-again (more k ts) = λ i. more (record { kind = plain-twice (k .kind) i; s
 
 -- the outline does not look at the escape mark
 mark-free : (k : Token) (i : ℕ) → insideToken (plainToken k) i ≡ insideToken k i
-unfolding insideToken shade.openMark shade.closeMark numberOf isShut
+unfolding insideToken kept.openMark kept.closeMark numberOf isShut
 mark-free k i =
     split-eq (numberOf (k .kind)) 12 (λ e. rw e)
     (λ a. split-eq (numberOf (k .kind)) 14 (λ e. rw e) (λ b. rw (ne-eqb (numberOf (k .kind)) 12 a, ne-eqb (numberOf (k .kind)) 14 b)))

@@ -7,6 +7,7 @@ use mathlib.Core.Logic.{⊎-elim}
 use native.Mathlib.Omega.{arith}
 use lib.Dec.{eqb}
 use lib.ListN.{length}
+use Rattle.choice.specs.Rule.{nextIs}
 use Rattle.demands.proofs.Flat.{Const, even-append, even-const, flat-all, flat-append, flat-none, wide-x}
 use Rattle.demands.proofs.Marked.{closes-far, form-closes, form-inside, form-opens, in-before, in-behind, in-middle, in-plain, opens-far, opens-no-bang, opens-no-dot, opens-some, plain-kind}
 use Rattle.demands.specs.Plain.{inBytes, plainToken}
@@ -21,13 +22,12 @@ use Rattle.families.specs.Places.{placeAfter}
 use Rattle.families.specs.Sane.{Sane}
 use Rattle.families.specs.Shape.{Form, Framed, Shaped, closeMark, openMark, xs}
 use Rattle.laws.proofs.Cases.{both-false, never, split}
-use Rattle.lexer.specs.Body.{tokenOf}
 use Rattle.lexer.specs.Next.{closeSpan, nextOf}
-use Rattle.choice.specs.Rule.{nextIs}
 use Rattle.numbers.specs.Kinds.{hasInside}
 use Rattle.outline.specs.Outline.{insideToken}
 use Rattle.readers.specs.Readers.{shut}
 use Rattle.readers.specs.Rules.{Rules, base}
+use Rattle.templates.specs.Body.{tokenOf}
 use Rattle.text.proofs.Decode.{width-pos}
 use Rattle.text.specs.Utf8.{width}
 use Rattle.token.specs.Reads.{reachedOf}
@@ -36,7 +36,7 @@ use Rattle.token.specs.declared.read.Read.{Read}
 use Rattle.token.specs.declared.read.Read.the-variants.{Got, Refused}
 use Rattle.token.specs.declared.read.Token.{Token}
 use Rattle.tokens.proofs.Starred.{reads}
-use Rattle.outline.specs.Outline as shade
+use Rattle.marks.specs.Marks as kept
 
 pub in-bytes : (R : Rules) (f : List ℕ) (p : ℕ) → placeAfter (inBytes R) f p ≡ placeAfter base f p
 unfolding placeAfter
@@ -107,15 +107,15 @@ module _ (R : Rules) (n : ℕ) where
       hi : ℕ
       hi = placeAfter base (f .mid) lo
 
-      opens : length (shade.openMark (k .kind)) ≡ length o
+      opens : length (kept.openMark (k .kind)) ≡ length o
       unfolding o
-      opens = ap (λ (x : Kind). length (shade.openMark x)) (f .kind) ∙ ap length (form-opens (f .form))
+      opens = ap (λ (x : Kind). length (kept.openMark x)) (f .kind) ∙ ap length (form-opens (f .form))
 
-      closes : length (shade.closeMark (k .kind)) ≡ length c
+      closes : length (kept.closeMark (k .kind)) ≡ length c
       unfolding c
-      closes = ap (λ (x : Kind). length (shade.closeMark x)) (f .kind) ∙ ap length (form-closes (f .form))
+      closes = ap (λ (x : Kind). length (kept.closeMark x)) (f .kind) ∙ ap length (form-closes (f .form))
 
-      marked : p < k .span .start + length (shade.openMark (k .kind))
+      marked : p < k .span .start + length (kept.openMark (k .kind))
       unfolding o
       marked = omega (arith, opens, starts, opens-some (f .form))
 

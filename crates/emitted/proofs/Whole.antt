@@ -14,7 +14,7 @@ use Rattle.laws.specs.Bools.{both, within}
 use Rattle.listed.specs.Checked.{good, wholeBy}
 use Rattle.looks.proofs.Numbers.{count-bound, count-whole}
 use Rattle.looks.specs.Numbered.{kindAt, tokenCount}
-use Rattle.storage.specs.Storage.{Below, listCheck, recordCheck, rowsCheck, rowsOf, wordRow}
+use Rattle.rows.specs.Rows.{listCheck, recordCheck, rowsCheck, rowsOf, wordRow}
 
 -- a good first row, and good rows behind it
 row-first : (k n last : ℕ) (s : List ℕ) → good (rowsCheck n last (rowsOf wordRow 3 (suc k) s)) ≡ true
@@ -44,7 +44,7 @@ rows-real (suc k) n last s h i b =
     omega (arith, more, getD-drop 3 s ((i - 1) * 3) 0, ap (λ (j : ℕ). getD s j 0) e))
 
 -- each row ends past its start
-rows-long : (k n last b : ℕ) (s : List ℕ) → good (rowsCheck n last (rowsOf wordRow 3 k s)) ≡ true → last < b → Below b s → last + k < b
+rows-long : (k n last b : ℕ) (s : List ℕ) → good (rowsCheck n last (rowsOf wordRow 3 k s)) ≡ true → last < b → ((i : ℕ) → getD s i 0 < b) → last + k < b
 rows-long zero n last b s h few all = omega arith
 rows-long (suc k) n last b s h few all =
     let r = row-first k n last s h in
@@ -61,5 +61,5 @@ module _ (l : List ℕ) (w : wholeBy l ≡ true) where
   whole-real i h = let b = count-bound l .1 in rows-real (length l / 3) 0 0 l whole-rows i (omega arith)
 
   -- the bound of `tokenCount` is none for such a list
-  pub whole-count : Below 4294967296 l → length l / 3 ≡ tokenCount l
+  pub whole-count : ((i : ℕ) → getD l i 0 < 4294967296) → length l / 3 ≡ tokenCount l
   whole-count all = let k = rows-long (length l / 3) 0 0 4294967296 l whole-rows (omega arith) all in count-whole l (omega arith)

@@ -5,7 +5,8 @@ use mathlib.Core.List.{List, []}
 use mathlib.Core.Bool.{Bool, true, false}
 use native.Mathlib.Omega.{arith}
 use borrow.Author.Tests.{eq-eqb, ne-eqb}
-use Rattle.classes.specs.Classes.{hexValue, isDigit, isHexDigit, isHighHex, isLowHex, isWhiteSpace}
+use Rattle.classes.specs.Classes.{isWhiteSpace}
+use Rattle.digits.specs.Digits.{hexValue, isDigit, isHexDigit, isHighHex, isLowHex}
 use Rattle.encoding.specs.Encode.{isScalar}
 use Rattle.escapes.specs.Escapes.{byteEscape, byteTurn, charEscape, charTurn, closeOf, digitsOf, hexOf, hexSecond, sharedOf, shiftIn, skipOf, templateOf, unicodeOf}
 use Rattle.escapes.specs.declared.Escape.the-variants.{Bad, Item}

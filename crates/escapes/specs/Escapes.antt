@@ -3,7 +3,8 @@ use Prim.Native.Nat.{ℕ, _+_, _*_, _%_}
 use mathlib.Core.List.{List, [], _∷_}
 use mathlib.Core.Bool.{Bool, true, false}
 use lib.Dec.{leb, eqb}
-use Rattle.classes.specs.Classes.{hexValue, isHexDigit, isWhiteSpace}
+use Rattle.classes.specs.Classes.{isWhiteSpace}
+use Rattle.digits.specs.Digits.{hexValue, isHexDigit}
 use Rattle.encoding.specs.Encode.{isScalar}
 use Rattle.escapes.specs.declared.Escape.{Escape}
 use Rattle.escapes.specs.declared.Escape.the-variants.{Bad, Item, Skipped}

@@ -149,13 +149,13 @@ fn parse_hex_escape(s: &[u8], at: usize) -> Escape
             next: at,
         };
     };
-    if !classes::is_ascii_hexdigit(value) {
+    if !digits::is_ascii_hexdigit(value) {
         return Escape::Bad {
             number: BAD_BYTE_ESCAPE,
             next,
         };
     }
-    hex_second(s, next, classes::hex_value(value))
+    hex_second(s, next, digits::hex_value(value))
 }
 
 // The second digit, behind one that stands for x.
@@ -169,14 +169,14 @@ fn hex_second(s: &[u8], at: usize, x: u32) -> Escape
             next: at,
         };
     };
-    if !classes::is_ascii_hexdigit(value) {
+    if !digits::is_ascii_hexdigit(value) {
         return Escape::Bad {
             number: BAD_BYTE_ESCAPE,
             next,
         };
     }
     Escape::Item {
-        value: x * 16 + classes::hex_value(value),
+        value: x * 16 + digits::hex_value(value),
         next,
     }
 }
@@ -222,7 +222,7 @@ fn unicode_close(some: bool, x: u32, next: usize) -> Escape
 fn shift_in(x: u32, digit: u32) -> u32
     ensures { λ r. ⌜ r ≡ shiftIn x digit ⌝ }
 {
-    x % 0x10000000 * 16 + classes::hex_value(digit)
+    x % 0x10000000 * 16 + digits::hex_value(digit)
 }
 
 fn unicode_digits(s: &[u8], at: usize) -> Escape
@@ -241,7 +241,7 @@ fn unicode_digits(s: &[u8], at: usize) -> Escape
         if value == 0x7d {
             return unicode_close(some, x, next);
         }
-        if !classes::is_ascii_hexdigit(value) {
+        if !digits::is_ascii_hexdigit(value) {
             return Escape::Bad {
                 number: BAD_UNICODE_ESCAPE,
                 next,

@@ -10,8 +10,8 @@ use Rattle.families.proofs.Moves.{token-moves}
 use Rattle.families.specs.Moves.{Moves, counting, mapRead, placeOf}
 use Rattle.families.specs.Places.{placeAfter}
 use Rattle.families.specs.Sane.{Sane}
-use Rattle.lexer.specs.Body.{tokenOf}
 use Rattle.readers.specs.Rules.{Rules}
+use Rattle.templates.specs.Body.{tokenOf}
 
 module _ (R : Rules) where
   place-next : (a : List ℕ) (v : ℕ) (cs : List ℕ) → placeOf R (a ++ (v ∷ cs)) (length a + 1) ≡ placeOf R (a ++ (v ∷ cs)) (length a) + R .wide v

@@ -9,11 +9,11 @@ use Rattle.families.specs.Places.{Cut, placeAfter}
 use Rattle.families.specs.Sane.{Sane}
 use Rattle.laws.proofs.Cases.{both-false, split}
 use Rattle.laws.specs.Bools.{both}
-use Rattle.lexer.proofs.Landing.{NextLands, token-consumes, token-lands}
-use Rattle.lexer.specs.Body.{tokenOf}
 use Rattle.lexer.specs.Next.{closeSpan, isShebang, nextOf, shebangOf}
 use Rattle.readers.proofs.Lands.{Lands, lands-le, line-lands}
 use Rattle.readers.specs.Rules.{Rules, base}
+use Rattle.templates.proofs.Landing.{NextLands, token-consumes, token-lands}
+use Rattle.templates.specs.Body.{tokenOf}
 use Rattle.text.specs.Utf8.{after, width}
 use Rattle.token.specs.Reads.{reachedOf}
 use Rattle.token.specs.declared.kind.Kind.the-variants.{Shebang}

@@ -10,11 +10,11 @@ use Rattle.families.proofs.Pairs.{turn-both}
 use Rattle.families.specs.Places.{placeAfter}
 use Rattle.families.specs.Shape.{Fits, Form, Framed, closeMark, commentForm, formKind, lineForm, openMark, stringForm, templateForm}
 use Rattle.laws.proofs.Cases.{never, split}
-use Rattle.lexer.specs.Body.{bodyOf, goOn}
 use Rattle.readers.proofs.Scans.{by-act}
 use Rattle.readers.specs.Readers.{Comments, Quoted, closedBy, commentStep, inLine, runStep, skips, slashed, starred, strStep, text}
 use Rattle.readers.specs.Rules.{Rules}
 use Rattle.readers.specs.Scan.{Act, before, behind, full, on, scan}
+use Rattle.templates.specs.Body.{bodyOf, goOn}
 use Rattle.token.specs.Reads.{spanOf}
 use Rattle.token.specs.declared.kind.Kind.the-variants.{Template}
 use Rattle.token.specs.declared.read.Read.{Read}

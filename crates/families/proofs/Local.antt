@@ -7,6 +7,7 @@ use mathlib.Core.Logic.{inl, inr}
 use native.Mathlib.Omega.{arith}
 use lib.Dec.{ltb, eqb}
 use borrow.Author.Tests.{lt-ltb}
+use Rattle.choice.specs.Rule.{Deep, behindOne, firstOf, nextIs, otherOf, tokenWith}
 use Rattle.families.proofs.Ends.{close-reached, next-past, token-past}
 use Rattle.families.proofs.Looks.{byte-local, char-local, comment-local, line-local, number-local, op-local, str-local, white-local, word-local}
 use Rattle.families.proofs.Nearby.{head-append, near-append, next-head}
@@ -16,13 +17,12 @@ use Rattle.families.specs.Places.{Cut, placeAfter}
 use Rattle.families.specs.Sane.{Sane}
 use Rattle.laws.proofs.Cases.{both-inv, never, split}
 use Rattle.laws.specs.Bools.{both}
-use Rattle.lexer.proofs.Landing.{NextLands, body-consumes, deepOf, token-lands, with-deep}
-use Rattle.lexer.specs.Body.{bodyOf, goOn, templateOf, tokenOf}
 use Rattle.lexer.specs.Next.{closeSpan, isShebang, nextOf}
-use Rattle.choice.specs.Rule.{Deep, behindOne, firstOf, nextIs, otherOf, tokenWith}
 use Rattle.readers.proofs.Lands.{Lands, byte-lands, comment-lands, lands-le, line-lands, str-lands}
 use Rattle.readers.specs.Readers.{byteOf, commentOf, lineOf, strOf}
 use Rattle.readers.specs.Rules.{Rules}
+use Rattle.templates.proofs.Landing.{NextLands, body-consumes, deepOf, token-lands, with-deep}
+use Rattle.templates.specs.Body.{bodyOf, goOn, templateOf, tokenOf}
 use Rattle.token.specs.Reads.{reachedOf}
 use Rattle.token.specs.declared.kind.Kind.the-variants.{Comment, Shebang}
 use Rattle.token.specs.declared.read.Read.{Read}

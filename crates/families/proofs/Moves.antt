@@ -7,19 +7,19 @@ use mathlib.Core.Logic.{inl, inr, _⊎_, ⊎-elim}
 use native.Mathlib.Omega.{arith}
 use lib.Dec.{ltb, eqb}
 use borrow.Author.Tests.{le-ltb, lt-ltb}
+use Rattle.choice.specs.Rule.{Deep, behindOne, firstOf, otherOf, tokenWith}
 use Rattle.families.proofs.Carried.{NextMoves, byte-moves, char-moves, comment-moves, lands-moves, line-moves, mapFound, number-moves, op-moves, str-moves, white-moves, word-moves}
 use Rattle.families.proofs.Pairs.{first-both, turn-both}
 use Rattle.families.specs.Moves.{Moves, mapRead, withWide}
 use Rattle.families.specs.Sane.{Sane}
 use Rattle.laws.proofs.Cases.{split}
 use Rattle.laws.specs.Bools.{both}
-use Rattle.lexer.proofs.Landing.{NextLands, deepOf, token-lands, with-deep}
-use Rattle.lexer.specs.Body.{bodyOf, goOn, templateOf, tokenOf, turnOf}
 use Rattle.lexer.specs.Next.{closeSpan, isShebang, nextOf}
-use Rattle.choice.specs.Rule.{Deep, behindOne, firstOf, otherOf, tokenWith}
 use Rattle.readers.proofs.Lands.{Lands, lands-le}
 use Rattle.readers.specs.Readers.{byteOf, commentOf, lineOf, strOf}
 use Rattle.readers.specs.Rules.{Rules}
+use Rattle.templates.proofs.Landing.{NextLands, deepOf, token-lands, with-deep}
+use Rattle.templates.specs.Body.{bodyOf, goOn, templateOf, tokenOf, turnOf}
 use Rattle.token.specs.Reads.{reachedOf}
 use Rattle.token.specs.declared.kind.Kind.the-variants.{Comment, Shebang}
 use Rattle.token.specs.declared.read.Read.{Read}

@@ -3,10 +3,10 @@ use Prim.Native.Nat.{ℕ}
 use mathlib.Core.Path.{_≡_, refl, sym, ap}
 use mathlib.Core.List.{List, [], _∷_, _++_}
 use lib.Dec.{eqb}
-use Rattle.classes.specs.Classes.{isDigit}
+use Rattle.choice.specs.Rule.{nextIs}
+use Rattle.digits.specs.Digits.{isDigit}
 use Rattle.families.specs.Near.{Head, Near}
 use Rattle.laws.proofs.Cases.{never}
-use Rattle.choice.specs.Rule.{nextIs}
 use Rattle.readers.specs.Readers.{beginsDigit}
 
 pub near-head : (x y : List ℕ) → Near x y → Head x y

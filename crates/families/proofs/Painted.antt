@@ -6,6 +6,7 @@ use mathlib.Core.Bool.{Bool, true, false}
 use native.Mathlib.Omega.{arith}
 use lib.ListN.{length}
 use borrow.Author.Tests.{eq-eqb, le-ltb}
+use Rattle.choice.specs.Rule.{Deep, firstOf, leftOf, otherOf, tokenWith}
 use Rattle.classes.specs.Classes.{whiteSpace}
 use Rattle.families.proofs.Nearby.{near-end}
 use Rattle.families.specs.Near.{Near}
@@ -13,13 +14,12 @@ use Rattle.families.specs.Places.{placeAfter}
 use Rattle.families.specs.Sane.{Sane}
 use Rattle.families.specs.Shape.{Fits, Form, LineEnd, closeMark, commentForm, formKind, lineForm, openMark, plainForm, stringForm, templateForm, xs}
 use Rattle.laws.specs.Tables.{inRanges}
-use Rattle.lexer.specs.Body.{bodyOf, templateOf, tokenOf, turnOf}
-use Rattle.choice.specs.Rule.{Deep, firstOf, leftOf, otherOf, tokenWith}
 use Rattle.operators.specs.Operators.{findOne, findThree, findTwo, lookOne, lookThree, lookTwo, ones, operatorOf, threes, twos}
 use Rattle.readers.proofs.Steps.{commentRead}
 use Rattle.readers.specs.Readers.{commentOf, commentStep, inLine, lineOf, run, runStep, skips, strKind, strOf, strStep, text}
 use Rattle.readers.specs.Rules.{Rules}
 use Rattle.readers.specs.Scan.{Act, Stop, on, scan}
+use Rattle.templates.specs.Body.{bodyOf, templateOf, tokenOf, turnOf}
 use Rattle.token.specs.Reads.{gotOf}
 use Rattle.token.specs.declared.kind.Kind.the-variants.{Comment, MultilineComment, Template}
 use Rattle.token.specs.declared.read.Read.{Read}

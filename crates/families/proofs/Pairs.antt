@@ -5,16 +5,17 @@ use mathlib.Core.List.{List}
 use mathlib.Core.Bool.{Bool, true, false}
 use lib.Dec.{eqb}
 use borrow.Author.Tests.{eqb-true}
-use Rattle.classes.specs.Classes.{isDigit, isWhiteSpace}
+use Rattle.choice.specs.Rule.{Deep, behindOne, firstOf, foundOr, leftOf, nextIs, otherOf}
+use Rattle.classes.specs.Classes.{isWhiteSpace}
+use Rattle.digits.specs.Digits.{isDigit}
 use Rattle.laws.proofs.Cases.{both-inv, split}
 use Rattle.laws.specs.Bools.{both, pick}
-use Rattle.lexer.specs.Body.{down, goOn, turnOf, up}
-use Rattle.choice.specs.Rule.{Deep, behindOne, firstOf, foundOr, leftOf, nextIs, otherOf}
 use Rattle.operators.specs.Operators.{operatorOf}
 use Rattle.operators.specs.declared.Operator.{Operator}
 use Rattle.operators.specs.declared.Operator.the-variants.{Found, Nothing}
 use Rattle.readers.specs.Readers.{byteOf, charOf, commentOf, lineOf, numberLitOf, startsWord, strOf, whiteOf, wordOf}
 use Rattle.readers.specs.Rules.{Rules}
+use Rattle.templates.specs.Body.{down, goOn, turnOf, up}
 use Rattle.token.specs.Reads.{gotOf, refusedOf}
 use Rattle.token.specs.declared.kind.Kind.{Kind}
 use Rattle.token.specs.declared.kind.Kind.the-variants.{Comment, Template}

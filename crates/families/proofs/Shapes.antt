@@ -6,16 +6,14 @@ use mathlib.Core.Bool.{Bool, true, false, not}
 use mathlib.Core.Logic.{inl, inr}
 use lib.Dec.{eqb}
 use borrow.Author.Tests.{eqb-true, not-true}
+use Rattle.choice.specs.Rule.{Deep, behindOne, firstOf, nextIs, tokenWith}
 use Rattle.families.proofs.Insides.{BodyShape, Inner, body-inner, comment-inner, comment-whole, inner-open, line-inner, opened, str-inner}
 use Rattle.families.proofs.Pairs.{first-both}
 use Rattle.families.specs.Places.{placeAfter}
 use Rattle.families.specs.Shape.{Framed, Shaped, commentForm, lineForm, openMark, stringForm, templateForm}
 use Rattle.laws.proofs.Cases.{both-inv, never, split}
 use Rattle.laws.specs.Bools.{both, pick}
-use Rattle.lexer.proofs.Landing.{deepOf, with-deep}
-use Rattle.lexer.specs.Body.{bodyOf, templateOf, tokenOf}
 use Rattle.lexer.specs.Next.{closeSpan, isShebang, nextOf, shebangOf}
-use Rattle.choice.specs.Rule.{Deep, behindOne, firstOf, nextIs, tokenWith}
 use Rattle.numbers.specs.Kinds.{hasInside, numberOf}
 use Rattle.operators.proofs.Ends.{by-length}
 use Rattle.operators.specs.Operators.{findOne, findThree, findTwo, foundAt, lookOne, lookThree, lookTwo, ones, operatorOf, threes, twos}
@@ -23,6 +21,8 @@ use Rattle.operators.specs.declared.Operator.the-variants.{Found}
 use Rattle.readers.specs.Readers.{Bytes, Chars, Quoted, body, broken, byteAnswer, byteOf, byteStep, charAnswer, charOf, charStep, closedBy, commentOf, commentStep, control, escape, fresh, inLine, letters, lineOf, numberLitOf, run, runStep, shut, skips, slash, slashed, strAnswer, strOf, strStep, text, whiteOf, wordOf}
 use Rattle.readers.specs.Rules.{Rules}
 use Rattle.readers.specs.Scan.{How, ended, full, scan, short}
+use Rattle.templates.proofs.Landing.{deepOf, with-deep}
+use Rattle.templates.specs.Body.{bodyOf, templateOf, tokenOf}
 use Rattle.token.specs.declared.kind.Kind.{Kind}
 use Rattle.token.specs.declared.kind.Kind.the-variants.{Comment, Ident, Shebang, Underscore}
 use Rattle.token.specs.declared.kind.Known.{Known}

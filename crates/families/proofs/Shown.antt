@@ -11,10 +11,10 @@ use Rattle.families.specs.Near.{Near}
 use Rattle.families.specs.Places.{placeAfter}
 use Rattle.families.specs.Sane.{Sane}
 use Rattle.families.specs.Shape.{Form, Framed, closeMark, commentForm, formKind, lineForm, openMark, painted, plainForm, stringForm, templateForm, xs}
-use Rattle.lexer.specs.Body.{tokenOf}
 use Rattle.numbers.proofs.Inverse.{plain-byte-str, plain-str}
 use Rattle.numbers.specs.Kinds.{kinds, numberOf, plainKind}
 use Rattle.readers.specs.Rules.{Rules}
+use Rattle.templates.specs.Body.{tokenOf}
 use Rattle.token.specs.Reads.{gotOf}
 use Rattle.token.specs.declared.read.Read.the-variants.{Got}
 use Rattle.token.specs.declared.read.Token.{Token}

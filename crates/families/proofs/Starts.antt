@@ -4,17 +4,17 @@ use mathlib.Core.Path.{_≡_, refl}
 use mathlib.Core.List.{List, [], _∷_}
 use mathlib.Core.Bool.{Bool, true, false}
 use lib.Dec.{ltb, eqb}
+use Rattle.choice.proofs.Choice.{first-cases}
+use Rattle.choice.specs.Rule.{Deep, behindOne, firstOf, tokenWith}
 use Rattle.families.proofs.Pairs.{turn-both}
 use Rattle.laws.proofs.Cases.{split}
 use Rattle.laws.specs.Bools.{both}
-use Rattle.choice.proofs.Choice.{first-cases}
-use Rattle.lexer.proofs.Landing.{deepOf, with-deep}
-use Rattle.lexer.specs.Body.{bodyOf, goOn, templateOf, tokenOf}
 use Rattle.lexer.specs.Next.{closeSpan, isShebang, nextOf}
-use Rattle.choice.specs.Rule.{Deep, behindOne, firstOf, tokenWith}
 use Rattle.readers.specs.Readers.{Bytes, Chars, Quoted, body, broken, byteAnswer, byteOf, byteStep, charAnswer, charOf, charStep, commentOf, control, escape, fresh, letters, lineOf, numberLitOf, shut, slash, slashed, strAnswer, strOf, strStep, text, whiteOf, wordOf}
 use Rattle.readers.specs.Rules.{Rules}
 use Rattle.readers.specs.Scan.{How, ended, full, scan, short}
+use Rattle.templates.proofs.Landing.{deepOf, with-deep}
+use Rattle.templates.specs.Body.{bodyOf, goOn, templateOf, tokenOf}
 use Rattle.token.specs.declared.kind.Kind.the-variants.{Comment, Shebang}
 use Rattle.token.specs.declared.read.Read.{Read}
 use Rattle.token.specs.declared.read.Read.the-variants.{Got, Refused}

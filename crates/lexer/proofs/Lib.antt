@@ -1,3 +1,1 @@
-pub mod Landing
-pub mod Turns
 pub mod Sources

@@ -9,16 +9,16 @@ use lib.ListN.{length}
 use borrow.Author.Tests.{eq-eqb, eqb-true, ne-eqb}
 use Rattle.laws.proofs.Cases.{both-false, both-inv, never}
 use Rattle.laws.specs.Bools.{both}
-use Rattle.lexer.specs.Body.{tokenOf}
 use Rattle.lexer.specs.Next.{closeSpan, isShebang, nextAt, nextOf, readAt, shebangOf}
 use Rattle.readers.specs.Readers.{inLine, lineOf, run}
 use Rattle.readers.specs.Rules.{base}
+use Rattle.sound.specs.Source.{positionTest}
+use Rattle.sound.specs.declared.Tested.{Tested}
+use Rattle.sound.specs.declared.Tested.the-variants.{IllFormed, Misplaced, Sound, TooLong}
+use Rattle.templates.specs.Body.{tokenOf}
 use Rattle.text.proofs.Decode.{Step, rest-tail}
 use Rattle.text.proofs.Leads.{width-1}
-use Rattle.text.specs.Source.{positionTest}
 use Rattle.text.specs.Utf8.{rest, width}
-use Rattle.text.specs.declared.source.Tested.{Tested}
-use Rattle.text.specs.declared.source.Tested.the-variants.{IllFormed, Misplaced, Sound, TooLong}
 use Rattle.token.specs.Reads.{gotOf, refusedOf}
 use Rattle.token.specs.declared.kind.Kind.the-variants.{Shebang}
 use Rattle.token.specs.declared.read.Read.{Read}

@@ -6,12 +6,12 @@ use lib.Dec.{eqb}
 use lib.ListN.{length}
 use Rattle.choice.specs.Rule.{behindOne, nextIs}
 use Rattle.laws.specs.Bools.{both, pick}
-use Rattle.lexer.specs.Body.{tokenOf}
 use Rattle.readers.specs.Readers.{lineOf}
 use Rattle.readers.specs.Rules.{Rules, base}
-use Rattle.text.specs.Source.{positionTest}
+use Rattle.sound.specs.Source.{positionTest}
+use Rattle.sound.specs.declared.Tested.the-variants.{IllFormed, Misplaced, Sound, TooLong}
+use Rattle.templates.specs.Body.{tokenOf}
 use Rattle.text.specs.Utf8.{rest}
-use Rattle.text.specs.declared.source.Tested.the-variants.{IllFormed, Misplaced, Sound, TooLong}
 use Rattle.token.specs.Reads.{refusedOf}
 use Rattle.token.specs.declared.kind.Kind.the-variants.{Shebang}
 use Rattle.token.specs.declared.read.Read.{Read}

@@ -1,7 +1,63 @@
-// A token of a source: which rule reads it, the template's cycle, the shebang and the tests before reading. Equal to specs/, on every slice and position.
-mod cycle;
-mod source;
+// The token of a source at a position: the shebang at 0, the source's end in refusal 12's span, and the tests before reading. Equal to specs/, on every slice and position.
+use sound::Tested;
+use templates::read_token;
+use text::Scalar;
+use token::Kind;
+use token::Read;
+ghost use mathlib.Core.Path.{_≡_};
+ghost use Rattle.lexer.specs.Next.{closeSpan, isShebang, nextAt, readAt};
+ghost use Rattle.text.specs.Utf8.{rest};
 
-pub use cycle::read_token;
-pub use source::next;
-pub use source::read;
+fn is_shebang(s: &[u8]) -> bool
+    ensures { λ r. ⌜ r ≡ isShebang (rest (now (s .entry)) 0) ⌝ }
+{
+    let Scalar::One { value: first, next } = text::scalar_at(s, 0) else {
+        return false;
+    };
+    if first != 35 {
+        return false;
+    }
+    let Scalar::One {
+        value: second,
+        next: _,
+    } = text::scalar_at(s, next)
+    else {
+        return false;
+    };
+    second == 33
+}
+
+fn close_span(end: usize, r: Read) -> Read
+    ensures { λ q. ⌜ q ≡ closeSpan end r ⌝ }
+{
+    let Read::Refused { refusal } = r else {
+        return r;
+    };
+    if refusal.number != 12 {
+        return r;
+    }
+    token::refused(12, refusal.span.start, end, refusal.reached)
+}
+
+// For a caller that has tested the source once: total on every slice and position.
+pub fn next(s: &[u8], at: usize) -> Read
+    ensures { λ r. ⌜ r ≡ nextAt (now (s .entry)) at ⌝ }
+{
+    if at == 0 {
+        if is_shebang(s) {
+            return token::got(Kind::Shebang, 0, readers::consume_line(s, 2));
+        }
+    }
+    close_span(s.len(), read_token(s, at, 64))
+}
+
+pub fn read(s: &[u8], at: usize) -> Read
+    ensures { λ r. ⌜ r ≡ readAt (now (s .entry)) at ⌝ }
+{
+    match sound::test_position(s, at) {
+        Tested::Sound => next(s, at),
+        Tested::TooLong => token::refused(1, 0, 0, 0),
+        Tested::IllFormed { at: bad } => token::refused(2, bad, bad, bad),
+        Tested::Misplaced { at: bad } => token::refused(4, bad, bad, bad),
+    }
+}

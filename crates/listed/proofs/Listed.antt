@@ -5,8 +5,8 @@ use mathlib.Core.List.{List}
 use Rattle.looks.specs.Buffer.{State}
 use Rattle.listed.specs.Checked.{listed, wholeBy}
 use Rattle.looks.specs.Calls.{Turn}
-use Rattle.storage.specs.Storage.{listCheck}
-use Rattle.storage.specs.declared.check.Checked.the-variants.{Good}
+use Rattle.rows.specs.Rows.{listCheck}
+use Rattle.rows.specs.declared.Checked.the-variants.{Good}
 
 pub listed-good : (l : List ℕ) (st : State) (turn : Turn) → listCheck l ≡ Good → listed l st turn ≡ turn
 unfolding listed wholeBy

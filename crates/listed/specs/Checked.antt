@@ -5,9 +5,9 @@ use mathlib.Core.Bool.{Bool, true, false}
 use Rattle.looks.specs.Buffer.{State}
 use Rattle.laws.specs.Bools.{pick}
 use Rattle.looks.specs.Calls.{Turn, refuses}
-use Rattle.storage.specs.Storage.{listCheck}
-use Rattle.storage.specs.declared.check.Checked.{Checked}
-use Rattle.storage.specs.declared.check.Checked.the-variants.{Faulty, Good}
+use Rattle.rows.specs.Rows.{listCheck}
+use Rattle.rows.specs.declared.Checked.{Checked}
+use Rattle.rows.specs.declared.Checked.the-variants.{Faulty, Good}
 
 abbrev pub good : Checked → Bool
 good Good = true

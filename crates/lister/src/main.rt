@@ -6,5 +6,5 @@ fn main() {
     let got = io::read_full(0, &mut source);
     let mut out = io::large_buffer();
     let waiting = printing::list(&source[..got], &mut out, 0);
-    printing::flush(&out, waiting);
+    buffer::flush(&out, waiting);
 }

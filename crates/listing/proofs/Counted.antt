@@ -12,9 +12,9 @@ use Rattle.listing.specs.Listing.{answerOf, listOf, noRoom, storedOf, wo
 use Rattle.listing.specs.declared.Listed.{Listed}
 use Rattle.listing.specs.declared.Listed.the-variants.{Stopped, Whole}
 use Rattle.readers.specs.Rules.{base}
-use Rattle.text.specs.Source.{sourceTest}
-use Rattle.text.specs.declared.source.Tested.{Tested}
-use Rattle.text.specs.declared.source.Tested.the-variants.{IllFormed, Misplaced, Sound, TooLong}
+use Rattle.sound.specs.Source.{sourceTest}
+use Rattle.sound.specs.declared.Tested.{Tested}
+use Rattle.sound.specs.declared.Tested.the-variants.{IllFormed, Misplaced, Sound, TooLong}
 use Rattle.tokens.specs.Tokens.{Tokens, countOf, fin, halt, more, tokensAt}
 
 abbrev pub countIn : Listed → ℕ

@@ -1,5 +1,5 @@
 // The tokens of a source, three words each (kind, start, end), in a lent store; later words keep their content.
-use text::Tested;
+use sound::Tested;
 use token::Read;
 use token::Refusal;
 use token::Span;
@@ -84,7 +84,7 @@ pub fn list(s: &[u8], store: &mut [u32]) -> Listed
     ensures { λ r. ⌜ (r ≡ listOf (now (s .entry)) (length (now (store .entry))))
         × (now (store .exit) ≡ sets (now (store .entry)) 0 (storedOf (now (s .entry)) (length (now (store .entry))))) ⌝ }
 {
-    match text::test_source(s) {
+    match sound::test_source(s) {
         Tested::Sound => list_tokens(s, store),
         Tested::TooLong => refused_at(1, 0),
         Tested::IllFormed { at } => refused_at(2, at),

@@ -12,14 +12,15 @@ use borrow.Author.Tests.{le-leb, le-ltb, lt-leb, lt-ltb, ltb-false, ltb-true}
 use Rattle.laws.proofs.Cases.{split}
 use Rattle.laws.specs.Bools.{both, pick, same}
 use Rattle.lexer.specs.Next.{nextAt}
+use Rattle.marks.specs.Marks.{closeMark, openMark}
 use Rattle.numbers.specs.Kinds.{hasInside}
-use Rattle.outline.specs.Outline.{answerOf, between, closeMark, insideAt, insideToken, openMark, outlineOf, outlined, paint, pointRefusal, writtenOf}
+use Rattle.outline.specs.Outline.{answerOf, between, insideAt, insideToken, outlineOf, outlined, paint, pointRefusal, writtenOf}
 use Rattle.outline.specs.declared.Outlined.{Outlined}
 use Rattle.outline.specs.declared.Outlined.the-variants.{Stopped, Whole}
 use Rattle.readers.specs.Rules.{base}
-use Rattle.text.specs.Source.{sourceTest}
-use Rattle.text.specs.declared.source.Tested.{Tested}
-use Rattle.text.specs.declared.source.Tested.the-variants.{IllFormed, Misplaced, Sound, TooLong}
+use Rattle.sound.specs.Source.{sourceTest}
+use Rattle.sound.specs.declared.Tested.{Tested}
+use Rattle.sound.specs.declared.Tested.the-variants.{IllFormed, Misplaced, Sound, TooLong}
 use Rattle.token.specs.declared.read.Read.{Read}
 use Rattle.token.specs.declared.read.Read.the-variants.{Got, Refused}
 use Rattle.token.specs.declared.read.Refusal.{Refusal}

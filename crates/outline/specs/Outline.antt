@@ -2,39 +2,20 @@
 use Prim.Native.Nat.{ℕ, suc, _+_}
 use mathlib.Core.List.{List, [], _∷_}
 use mathlib.Core.Bool.{Bool, true, false}
-use lib.Dec.{leb, ltb, eqb}
+use lib.Dec.{leb, ltb}
 use lib.ListN.{length}
-use Rattle.laws.specs.Bools.{both, pick, within}
-use Rattle.numbers.specs.Kinds.{hasInside, numberOf}
-use Rattle.outline.specs.Shut.{isShut}
+use Rattle.laws.specs.Bools.{both, pick}
+use Rattle.marks.specs.Marks.{closeMark, openMark}
+use Rattle.numbers.specs.Kinds.{hasInside}
 use Rattle.outline.specs.declared.Outlined.{Outlined}
 use Rattle.outline.specs.declared.Outlined.the-variants.{Stopped, Whole}
 use Rattle.readers.specs.Rules.{Rules, base}
-use Rattle.text.specs.Source.{sourceTest}
-use Rattle.text.specs.declared.source.Tested.the-variants.{IllFormed, Misplaced, Sound, TooLong}
+use Rattle.sound.specs.Source.{sourceTest}
+use Rattle.sound.specs.declared.Tested.the-variants.{IllFormed, Misplaced, Sound, TooLong}
 use Rattle.token.specs.Reads.{pointOf}
-use Rattle.token.specs.declared.kind.Kind.{Kind}
 use Rattle.token.specs.declared.read.Refusal.{Refusal}
 use Rattle.token.specs.declared.read.Token.{Token}
 use Rattle.tokens.specs.Tokens.{Tokens, fin, halt, more, tokensAt}
-
--- the marks that stay before and behind an inside, each scalar of one byte
-unfoldable pub openMark : Kind → List ℕ
-openMark k =
-    let n = numberOf k in
-    pick (eqb n 2) (47 ∷ 47 ∷ [])
-    (pick (within 3 4 n) (47 ∷ 42 ∷ [])
-    (pick (within 11 12 n) (34 ∷ [])
-    (pick (within 13 14 n) (98 ∷ 34 ∷ [])
-    (pick (eqb n 16) (96 ∷ []) []))))
-
--- a closing mark stays only where it closed the token
-unfoldable pub closeMark : Kind → List ℕ
-closeMark k =
-    let n = numberOf k in
-    pick (eqb n 3) (42 ∷ 47 ∷ [])
-    (pick (within 11 14 n) (34 ∷ [])
-    (pick (both (eqb n 16) (isShut k)) (96 ∷ []) []))
 
 -- the byte at i lies inside the token k
 unfoldable pub insideToken : Token → ℕ → Bool

@@ -1,5 +1,5 @@
 // A source with x over every byte inside its strings, byte strings, comments and templates, in a lent buffer. One pass, each token read once.
-use text::Tested;
+use sound::Tested;
 use token::Kind;
 use token::Read;
 use token::Refusal;
@@ -11,8 +11,7 @@ ghost use lib.Dec.{leb, ltb};
 ghost use lib.Seq.{sets, slice};
 ghost use lib.ListN.{length};
 ghost use Rattle.laws.specs.Bools.{both, pick};
-ghost use Rattle.outline.specs.Outline.{answerOf, between, closeMark, openMark, outlineOf, outlined, paint, pointRefusal, writtenOf};
-ghost use Rattle.outline.specs.Shut.{isShut};
+ghost use Rattle.outline.specs.Outline.{answerOf, between, outlineOf, outlined, paint, pointRefusal, writtenOf};
 ghost use Rattle.outline.specs.declared.Outlined.the-variants.{Stopped};
 ghost use Rattle.readers.specs.Rules.{base};
 ghost use Rattle.tokens.specs.Tokens.{tokensAt};
@@ -31,46 +30,6 @@ fn refused_at(number: u32, at: usize) -> Outlined
             span: Span { start: at, end: at },
             reached: at,
         },
-    }
-}
-
-// How many bytes of a token stay before its inside.
-fn opens(kind: Kind) -> usize
-    ensures { λ r. ⌜ r ≡ length (openMark kind) ⌝ }
-{
-    match numbers::number_of(kind) {
-        2..=4 | 13..=14 => 2,
-        11..=12 | 16 => 1,
-        _ => 0,
-    }
-}
-
-fn is_shut(kind: Kind) -> bool
-    ensures { λ r. ⌜ r ≡ isShut kind ⌝ }
-{
-    let Kind::Template { closed } = kind else {
-        return false;
-    };
-    closed
-}
-
-// How many stay behind it.
-fn closes(kind: Kind) -> usize
-    ensures { λ r. ⌜ r ≡ length (closeMark kind) ⌝ }
-{
-    let n = numbers::number_of(kind);
-    if n == 3 {
-        return 2;
-    }
-    if n == 16 {
-        if is_shut(kind) {
-            return 1;
-        }
-        return 0;
-    }
-    match n {
-        11..=14 => 1,
-        _ => 0,
     }
 }
 
@@ -125,8 +84,8 @@ fn outline_tokens(s: &[u8], out: &mut [u8]) -> Outlined
                     at,
                     end,
                     groups::has_inside(kind),
-                    at + opens(kind),
-                    closes(kind),
+                    at + marks::opens(kind),
+                    marks::closes(kind),
                 );
                 at = end;
             }
@@ -147,7 +106,7 @@ fn outline_fitting(s: &[u8], out: &mut [u8]) -> Outlined
 pub fn outline(s: &[u8], out: &mut [u8]) -> Outlined
     ensures { λ r. ⌜ (r ≡ outlineOf (now (s .entry)) (length (now (out .entry)))) × (now (out .exit) ≡ sets (now (out .entry)) 0 (writtenOf (now (s .entry)) (length (now (out .entry))))) ⌝ }
 {
-    match text::test_source(s) {
+    match sound::test_source(s) {
         Tested::Sound => outline_fitting(s, out),
         Tested::TooLong => refused_at(1, 0),
         Tested::IllFormed { at } => refused_at(2, at),

@@ -4,7 +4,7 @@ mod sources;
 
 use listing::Listed;
 use outline::Outlined;
-use text::Tested;
+use sound::Tested;
 use token::Refusal;
 use token::Span;
 ghost use Prim.Native.Nat.{_+_, _≤_, _<_};
@@ -144,7 +144,7 @@ fn try_one(
         return Tried::Different;
     }
     let part = &s[..n];
-    match text::test_source(part) {
+    match sound::test_source(part) {
         Tested::Sound => {
             if agrees(part, once, twice, words, others) {
                 return Tried::WellFormed;

@@ -1,10 +1,62 @@
-// What the programs print: bytes and numbers by way of a lent buffer, and the listing of a source in document 01's lines.
+// Document 01's lister: `KIND START END` a token, then `refused NO START END` or `end COUNT`; token by token, without a store.
 // Every function here is safe and ends. What reaches standard output no contract can say: runs show it.
-mod buffer;
-mod listing;
+use buffer::put;
+use buffer::put_bytes;
+use buffer::put_decimal;
+use sound::Tested;
+use token::Read;
 
-pub use buffer::flush;
-pub use buffer::put;
-pub use buffer::put_bytes;
-pub use buffer::put_decimal;
-pub use listing::list;
+fn put_three(out: &mut [u8], waiting: usize, number: u32, start: usize, end: usize) -> usize {
+    let mut waiting = put_decimal(out, waiting, number as u64);
+    waiting = put(out, waiting, b' ');
+    waiting = put_decimal(out, waiting, start as u64);
+    waiting = put(out, waiting, b' ');
+    waiting = put_decimal(out, waiting, end as u64);
+    put(out, waiting, b'\n')
+}
+
+fn put_refused(out: &mut [u8], waiting: usize, number: u32, start: usize, end: usize) -> usize {
+    let waiting = put_bytes(out, waiting, b"refused ");
+    put_three(out, waiting, number, start, end)
+}
+
+fn put_end(out: &mut [u8], waiting: usize, count: usize) -> usize {
+    let mut waiting = put_bytes(out, waiting, b"end ");
+    waiting = put_decimal(out, waiting, count as u64);
+    put(out, waiting, b'\n')
+}
+
+// Each token goes past its start, so the bytes left fall.
+fn list_tokens(s: &[u8], out: &mut [u8], waiting: usize) -> usize {
+    let mut waiting = waiting;
+    let mut at: usize = 0;
+    let mut count: usize = 0;
+    loop {
+        match lexer::next(s, at) {
+            Read::Refused { refusal } => {
+                let span = refusal.span;
+                return put_refused(out, waiting, refusal.number, span.start, span.end);
+            }
+            Read::Got { token } => {
+                let kind = token.kind;
+                let span = token.span;
+                let end = span.end;
+                if end == at {
+                    return put_end(out, waiting, count);
+                }
+                waiting = put_three(out, waiting, numbers::number_of(kind), span.start, end);
+                count = count + 1;
+                at = end;
+            }
+        }
+    }
+}
+
+pub fn list(s: &[u8], out: &mut [u8], waiting: usize) -> usize {
+    match sound::test_source(s) {
+        Tested::Sound => list_tokens(s, out, waiting),
+        Tested::TooLong => put_refused(out, waiting, 1, 0, 0),
+        Tested::IllFormed { at } => put_refused(out, waiting, 2, at, at),
+        Tested::Misplaced { at } => put_refused(out, waiting, 4, at, at),
+    }
+}

@@ -4,7 +4,8 @@ use Prim.Native.Nat.{ℕ, zero, suc, _+_}
 use mathlib.Core.List.{List, [], _∷_}
 use mathlib.Core.Bool.{Bool, true, false, not}
 use lib.Dec.{eqb}
-use Rattle.classes.specs.Classes.{isControl, isDigit, isWhiteSpace}
+use Rattle.classes.specs.Classes.{isControl, isWhiteSpace}
+use Rattle.digits.specs.Digits.{isDigit}
 use Rattle.laws.specs.Bools.{both, either, pick, within}
 use Rattle.readers.specs.Rules.{Rules}
 use Rattle.readers.specs.Scan.{Act, How, before, behind, ended, full, on, scan, short}

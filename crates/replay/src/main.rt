@@ -58,7 +58,7 @@ fn answer(length: usize, source: &mut [u8], out: &mut [u8], waiting: usize) -> u
     let held = least(length, source.len());
     let listed = list_payload(&mut source[..held], out, waiting);
     skip(source, length - held);
-    printing::put_bytes(out, listed, b".\n")
+    buffer::put_bytes(out, listed, b".\n")
 }
 
 // Nothing says that the input ends: the number of turns falls.
@@ -79,5 +79,5 @@ fn main() {
     let mut source = [0u8; 65537];
     let mut out = io::large_buffer();
     let waiting = answer_all(&mut source, &mut out);
-    printing::flush(&out, waiting);
+    buffer::flush(&out, waiting);
 }

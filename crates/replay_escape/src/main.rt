@@ -42,36 +42,6 @@ fn length_of(head: &[u8; 5]) -> usize {
     wide(head[1]) + wide(head[2]) * 256 + wide(head[3]) * 65536 + wide(head[4]) * 16777216
 }
 
-// One byte more to print; a full buffer goes out first.
-fn emit(out: &mut [u8], n: usize, b: u8) -> usize {
-    if n < out.len() {
-        out[n] = b;
-        return n + 1;
-    }
-    io::write_all(1, out);
-    if 0 < out.len() {
-        out[0] = b;
-        return 1;
-    }
-    0
-}
-
-fn emit_all(out: &mut [u8], n: usize, bytes: &[u8]) -> usize {
-    let mut k = n;
-    let mut i = 0;
-    while i < bytes.len() {
-        k = emit(out, k, bytes[i]);
-        i = i + 1;
-    }
-    k
-}
-
-fn emit_number(out: &mut [u8], n: usize, x: usize) -> usize {
-    let mut digits = [0u8; 20];
-    let count = io::decimal(x as u64, &mut digits);
-    emit_all(out, n, &digits[..count])
-}
-
 fn digit(x: u8) -> u8 {
     match x {
         0..=9 => b'0' + x,
@@ -85,8 +55,8 @@ fn emit_hex(out: &mut [u8], n: usize, bytes: &[u8]) -> usize {
     let mut i = 0;
     while i < bytes.len() {
         let b = bytes[i];
-        k = emit(out, k, digit(b / 16));
-        k = emit(out, k, digit(b % 16));
+        k = buffer::put(out, k, digit(b / 16));
+        k = buffer::put(out, k, digit(b % 16));
         i = i + 1;
     }
     k
@@ -94,27 +64,27 @@ fn emit_hex(out: &mut [u8], n: usize, bytes: &[u8]) -> usize {
 
 // A space and a number.
 fn emit_next(out: &mut [u8], n: usize, x: usize) -> usize {
-    let k = emit(out, n, b' ');
-    emit_number(out, k, x)
+    let k = buffer::put(out, n, b' ');
+    buffer::put_decimal(out, k, x as u64)
 }
 
 fn emit_written(out: &mut [u8], n: usize, bytes: &[u8]) -> usize {
-    let a = emit_all(out, n, b"out");
+    let a = buffer::put_bytes(out, n, b"out");
     let b = emit_next(out, a, bytes.len());
     if bytes.len() == 0 {
-        return emit_all(out, b, b"\n.\n");
+        return buffer::put_bytes(out, b, b"\n.\n");
     }
-    let c = emit(out, b, b' ');
+    let c = buffer::put(out, b, b' ');
     let d = emit_hex(out, c, bytes);
-    emit_all(out, d, b"\n.\n")
+    buffer::put_bytes(out, d, b"\n.\n")
 }
 
 fn emit_refused(out: &mut [u8], n: usize, number: u32, start: usize, end: usize) -> usize {
-    let a = emit_all(out, n, b"refused");
+    let a = buffer::put_bytes(out, n, b"refused");
     let b = emit_next(out, a, number as usize);
     let c = emit_next(out, b, start);
     let d = emit_next(out, c, end);
-    emit_all(out, d, b"\n.\n")
+    buffer::put_bytes(out, d, b"\n.\n")
 }
 
 fn emit_answer(out: &mut [u8], n: usize, answer: Unescaped, written: &[u8]) -> usize {
@@ -185,9 +155,7 @@ fn all(body: &mut [u8], written: &mut [u8], out: &mut [u8]) {
             }
         }
     }
-    if n <= out.len() {
-        io::write_all(1, &out[..n]);
-    }
+    buffer::flush(out, n);
 }
 
 // Room for a body that is too long by a little.

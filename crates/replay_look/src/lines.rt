@@ -1,8 +1,8 @@
 // The lines of rust/oracle for lookahead scripts. Each function answers how many bytes of the buffer then wait to be printed.
+use buffer::put;
+use buffer::put_bytes;
+use buffer::put_decimal;
 use looks::Looked;
-use printing::put;
-use printing::put_bytes;
-use printing::put_decimal;
 
 // A space and a number.
 fn put_next(out: &mut [u8], waiting: usize, number: u64) -> usize {

@@ -118,7 +118,7 @@ fn answer(
     waiting: usize,
 ) -> usize {
     let answered = answer_script(keep, source, script, list, written, out, waiting);
-    printing::put_bytes(out, answered, b".\n")
+    buffer::put_bytes(out, answered, b".\n")
 }
 
 fn turn(
@@ -193,5 +193,5 @@ fn main() {
     let mut written = words();
     let mut out = io::large_buffer();
     let waiting = answer_all(&mut source, &mut script, &mut list, &mut written, &mut out);
-    printing::flush(&out, waiting);
+    buffer::flush(&out, waiting);
 }

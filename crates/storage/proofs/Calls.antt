@@ -5,8 +5,9 @@ use mathlib.Core.List.{List}
 use lib.Seq.{sets}
 use lib.ListN.{length}
 use Rattle.laws.proofs.Determined.{determined}
-use Rattle.storage.specs.Storage.{readBy, readOf, writeOf, writtenBy}
-use Rattle.storage.specs.declared.Stored.{Stored}
+use Rattle.rows.specs.declared.Stored.{Stored}
+use Rattle.stored_reader.specs.Reader.{readBy, readOf}
+use Rattle.stored_writer.specs.Writer.{writeOf, writtenBy}
 
 module _ (l out : List ℕ) (r q : Stored) (v w : List ℕ) where
   pub write-determined : (r ≡ writeOf l (length out)) × (v ≡ sets out 0 (writtenBy l (length out))) → (q ≡ writeOf l (length out)) × (w ≡ sets out 0 (writtenBy l (length out))) → (r ≡ q) × (v ≡ w)

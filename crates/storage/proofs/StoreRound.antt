@@ -10,13 +10,18 @@ use lib.ListN.{drop, getD, length, length-drop}
 use borrow.Author.Tests.{eqb-true}
 use Rattle.laws.proofs.Cases.{both-inv, never, within-inv}
 use Rattle.laws.specs.Bools.{both, pick, same, within}
-use Rattle.storage.proofs.Puts.{length-records, length-tokens, recordIn, stored-done}
-use Rattle.storage.proofs.Rows.{bytes-checked, bytes-sound, list-checked, list-sound}
-use Rattle.storage.specs.Storage.{Below, Row, andThen, byteRow, bytesCheck, listCheck, listRows, listWords, readBy, readOf, recordCheck, recordsOf, refusalAt, rowCheck, rowsCheck, rowsOf, storedIn, storedRows, tokenWords, u32Bytes, u32Of, unlessRefused, wordRow, writeOf, writtenBy}
-use Rattle.storage.specs.declared.Stored.{Stored}
-use Rattle.storage.specs.declared.Stored.the-variants.{Done}
-use Rattle.storage.specs.declared.check.Checked.{Checked}
-use Rattle.storage.specs.declared.check.Checked.the-variants.{Faulty, Good}
+use Rattle.rows.proofs.Puts.{stored-done}
+use Rattle.rows.proofs.Rows.{list-checked, list-sound}
+use Rattle.rows.specs.Rows.{Row, andThen, listCheck, listRows, recordCheck, refusalAt, rowCheck, rowsCheck, rowsOf, storedIn, unlessRefused, wordRow}
+use Rattle.rows.specs.declared.Checked.{Checked}
+use Rattle.rows.specs.declared.Checked.the-variants.{Faulty, Good}
+use Rattle.rows.specs.declared.Stored.{Stored}
+use Rattle.rows.specs.declared.Stored.the-variants.{Done}
+use Rattle.storage.specs.Storage.{Below}
+use Rattle.stored_reader.proofs.Records.{bytes-checked, bytes-sound, length-tokens}
+use Rattle.stored_reader.specs.Reader.{byteRow, bytesCheck, listWords, readBy, readOf, storedRows, tokenWords, u32Of}
+use Rattle.stored_writer.proofs.Records.{length-records, recordIn}
+use Rattle.stored_writer.specs.Writer.{recordsOf, u32Bytes, writeOf, writtenBy}
 use Rattle.token.specs.declared.read.Refusal.{Refusal}
 
 -- a word and its bytes

@@ -5,14 +5,12 @@ use mathlib.Core.List.{List, [], _∷_}
 use mathlib.Core.Bool.{Bool, true, false}
 use lib.Dec.{leb, ltb, eqb}
 use lib.ListN.{length}
+use Rattle.choice.proofs.Choice.{first-cases}
+use Rattle.choice.specs.Rule.{Deep, behindOne, firstOf, tokenWith}
 use Rattle.families.proofs.Pairs.{turn-both}
 use Rattle.laws.proofs.Cases.{both-inv, never, split}
 use Rattle.laws.specs.Bools.{both, pick}
-use Rattle.choice.proofs.Choice.{first-cases}
-use Rattle.lexer.proofs.Landing.{deepOf, with-deep}
-use Rattle.lexer.specs.Body.{bodyOf, goOn, templateOf, tokenOf}
 use Rattle.lexer.specs.Next.{closeSpan, isShebang, nextOf}
-use Rattle.choice.specs.Rule.{Deep, behindOne, firstOf, tokenWith}
 use Rattle.numbers.specs.Kinds.{numberOf}
 use Rattle.operators.proofs.Ends.{by-length}
 use Rattle.operators.specs.Operators.{findOne, findThree, findTwo, foundAt, lookOne, lookThree, lookTwo, ones, operatorOf, threes, twos}
@@ -20,6 +18,8 @@ use Rattle.operators.specs.declared.Operator.the-variants.{Found}
 use Rattle.readers.specs.Readers.{Bytes, Chars, Quoted, body, broken, byteAnswer, byteOf, byteStep, charAnswer, charOf, charStep, closedBy, commentOf, commentStep, control, escape, fresh, letters, lineOf, numberLitOf, run, shut, skips, slash, slashed, strAnswer, strOf, strStep, text, whiteOf, wordOf}
 use Rattle.readers.specs.Rules.{Rules, base}
 use Rattle.readers.specs.Scan.{How, ended, full, scan, short}
+use Rattle.templates.proofs.Landing.{deepOf, with-deep}
+use Rattle.templates.specs.Body.{bodyOf, goOn, templateOf, tokenOf}
 use Rattle.text.specs.Utf8.{rest}
 use Rattle.token.specs.declared.kind.Kind.{Kind}
 use Rattle.token.specs.declared.kind.Kind.the-variants.{Comment, Ident, MultilineComment, Shebang, Underscore}

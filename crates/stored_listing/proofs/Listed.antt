@@ -6,13 +6,13 @@ use lib.ListN.{length}
 use Rattle.listing.proofs.Stores.{by-test}
 use Rattle.listing.specs.Listing.{storedOf}
 use Rattle.readers.specs.Rules.{base}
-use Rattle.storage.specs.Storage.{writeOf}
-use Rattle.storage.specs.declared.Stored.the-variants.{Done}
+use Rattle.rows.specs.declared.Stored.the-variants.{Done}
+use Rattle.sound.specs.Source.{sourceTest}
+use Rattle.sound.specs.declared.Tested.{Tested}
+use Rattle.sound.specs.declared.Tested.the-variants.{IllFormed, Misplaced, Sound, TooLong}
 use Rattle.stored_listing.proofs.Inner.{all-inner}
 use Rattle.stored_listing.proofs.Words.{Accepted, accepted-written, none-accepted, words-accepted}
-use Rattle.text.specs.Source.{sourceTest}
-use Rattle.text.specs.declared.source.Tested.{Tested}
-use Rattle.text.specs.declared.source.Tested.the-variants.{IllFormed, Misplaced, Sound, TooLong}
+use Rattle.stored_writer.specs.Writer.{writeOf}
 use Rattle.tokens.proofs.Cover.{covers}
 use Rattle.tokens.specs.Tokens.{tokensAt}
 

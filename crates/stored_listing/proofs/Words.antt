@@ -10,12 +10,14 @@ use Rattle.laws.proofs.Cases.{split}
 use Rattle.listing.specs.Listing.{wordsOf}
 use Rattle.numbers.proofs.Inverse.{number-range}
 use Rattle.numbers.specs.Kinds.{numberOf}
-use Rattle.storage.proofs.Puts.{length-records, stored-done}
-use Rattle.storage.proofs.Rows.{list-checked, list-cons}
-use Rattle.storage.specs.Storage.{listCheck, listRows, recordsOf, rowsCheck, rowsOf, wordRow, writeOf}
-use Rattle.storage.specs.declared.Stored.the-variants.{Done}
-use Rattle.storage.specs.declared.check.Checked.the-variants.{Good}
+use Rattle.rows.proofs.Puts.{stored-done}
+use Rattle.rows.proofs.Rows.{list-checked, list-cons}
+use Rattle.rows.specs.Rows.{listCheck, listRows, rowsCheck, rowsOf, wordRow}
+use Rattle.rows.specs.declared.Checked.the-variants.{Good}
+use Rattle.rows.specs.declared.Stored.the-variants.{Done}
 use Rattle.stored_listing.proofs.Inner.{AllInner}
+use Rattle.stored_writer.proofs.Records.{length-records}
+use Rattle.stored_writer.specs.Writer.{recordsOf, writeOf}
 use Rattle.tokens.specs.Tokens.{Covers, Tokens, fin, halt, more}
 
 -- no refusal but of the room

@@ -1,4 +1,4 @@
-// The calls for a caller that tested its list once, by `storage::check`: a list that is not of whole records or is faulty is not refused, but read as it stands.
+// The calls for a caller that tested its list once, by `rows::check_list`: a list that is not of whole records or is faulty is not refused, but read as it stands.
 use lookahead::Ahead;
 use looks::Looked;
 use looks::emits::advance_at;

@@ -1,4 +1,2 @@
 pub mod Leads
 pub mod Decode
-pub mod Blocks
-pub mod Places

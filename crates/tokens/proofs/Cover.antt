@@ -7,11 +7,11 @@ use lib.ListN.{length}
 use Rattle.laws.proofs.Cases.{never, split-eq}
 use Rattle.lexer.specs.Next.{nextAt}
 use Rattle.readers.specs.Rules.{base}
+use Rattle.sound.proofs.Places.{sound-inv}
+use Rattle.sound.specs.Source.{soundTo, sourceTest}
+use Rattle.sound.specs.declared.Tested.the-variants.{Sound}
 use Rattle.text.proofs.Decode.{after-end, by-step}
-use Rattle.text.proofs.Places.{sound-inv}
-use Rattle.text.specs.Source.{soundTo, sourceTest}
 use Rattle.text.specs.Utf8.{after, rest}
-use Rattle.text.specs.declared.source.Tested.the-variants.{Sound}
 use Rattle.token.specs.declared.read.Read.{Read}
 use Rattle.token.specs.declared.read.Read.the-variants.{Got, Refused}
 use Rattle.token.specs.declared.read.Refusal.{Refusal}

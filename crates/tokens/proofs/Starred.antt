@@ -2,16 +2,16 @@
 use Prim.Native.Nat.{ℕ, zero, suc}
 use mathlib.Core.Path.{_≡_, refl}
 use mathlib.Core.List.{List, [], _∷_, _++_, map}
+use Rattle.choice.specs.Rule.{firstOf, leftOf, otherOf, tokenWith}
 use Rattle.classes.specs.Classes.{whiteSpace, xidContinue, xidStart}
 use Rattle.laws.specs.Tables.{inRanges}
-use Rattle.lexer.specs.Body.{bodyOf, templateOf, tokenOf, turnOf}
 use Rattle.lexer.specs.Next.{nextOf}
-use Rattle.choice.specs.Rule.{firstOf, leftOf, otherOf, tokenWith}
 use Rattle.numbers.specs.Kinds.{numberOf}
 use Rattle.operators.specs.Operators.{findOne, findThree, findTwo, lookOne, lookThree, lookTwo, ones, operatorOf, threes, twos}
 use Rattle.readers.specs.Readers.{byteOf, byteStep, charOf, charStep, commentOf, commentStep, run, whiteOf, wordOf}
 use Rattle.readers.specs.Rules.{base}
 use Rattle.readers.specs.Scan.{scan}
+use Rattle.templates.specs.Body.{bodyOf, templateOf, tokenOf, turnOf}
 use Rattle.text.specs.Utf8.{decode, first, from, leadOf, rest, width}
 use Rattle.tokens.specs.Tokens.{Tokens, fin, halt, more, tokensAt, tokensOf}
 

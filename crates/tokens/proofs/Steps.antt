@@ -6,14 +6,14 @@ use mathlib.Core.Logic.{inl, inr}
 use native.Mathlib.Omega.{arith}
 use lib.ListN.{length}
 use borrow.Author.Tests.{le-ltb, lt-ltb}
+use Rattle.choice.specs.Rule.{tokenWith}
 use Rattle.families.proofs.Ends.{next-consumes}
 use Rattle.families.proofs.Starts.{next-start}
 use Rattle.laws.proofs.Cases.{both-false, never}
-use Rattle.lexer.specs.Body.{tokenOf}
 use Rattle.lexer.specs.Next.{nextAt, nextOf}
-use Rattle.choice.specs.Rule.{tokenWith}
 use Rattle.readers.proofs.Lands.{Lands, lands-le, lands-room}
 use Rattle.readers.specs.Rules.{Rules, base}
+use Rattle.templates.specs.Body.{tokenOf}
 use Rattle.text.proofs.Decode.{Step, after-step, by-step, rest-tail, width-pos}
 use Rattle.text.specs.Utf8.{after, rest, width}
 use Rattle.token.specs.Reads.{gotOf, reachedOf}

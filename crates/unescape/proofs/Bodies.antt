@@ -2,55 +2,32 @@
 use Prim.Native.Nat.{ℕ, _+_, _≤_, _<_}
 use mathlib.Core.Path.{_≡_, refl, sym, ap, ap₂, _∙_, subst}
 use mathlib.Core.List.{List, [], _∷_, _++_}
-use mathlib.Core.Bool.{Bool, true, false, not}
+use mathlib.Core.Bool.{true, false}
 use mathlib.Core.Logic.{inl, inr}
 use native.Mathlib.Omega.{arith}
 use lib.Dec.{ltb}
 use lib.Seq.{length-sets, sets}
 use lib.ListN.{length, length-append}
-use borrow.Author.Tests.{eq-eqb, le-ltb, lt-ltb, ne-eqb}
+use borrow.Author.Tests.{le-ltb, lt-ltb}
 use Rattle.encoding.proofs.Round.{step-is-scalar}
-use Rattle.escapes.specs.Escapes.{byteEscape, charEscape}
 use Rattle.escapes.specs.declared.Escape.{Escape}
 use Rattle.escapes.specs.declared.Escape.the-variants.{Bad, Item, Skipped}
+use Rattle.items.proofs.Items.{Fits, item-fits}
+use Rattle.items.proofs.Lands.{Lands, item-lands, lands-le, lands-room, placeOf}
+use Rattle.items.specs.Items.{itemBytes, itemOf}
+use Rattle.items.specs.declared.Form.{Form}
 use Rattle.laws.proofs.Cases.{never}
 use Rattle.laws.specs.Bools.{pick, same}
+use Rattle.sound.specs.Source.{sourceTest}
+use Rattle.sound.specs.declared.Tested.{Tested}
+use Rattle.sound.specs.declared.Tested.the-variants.{IllFormed, Misplaced, Sound, TooLong}
 use Rattle.text.proofs.Decode.{Step, rest-tail, width-pos}
-use Rattle.text.specs.Source.{sourceTest}
 use Rattle.text.specs.Utf8.{rest, width}
-use Rattle.text.specs.declared.source.Tested.{Tested}
-use Rattle.text.specs.declared.source.Tested.the-variants.{IllFormed, Misplaced, Sound, TooLong}
-use Rattle.unescape.proofs.Items.{Fits, item-fits}
-use Rattle.unescape.proofs.Lands.{Lands, item-lands, lands-le, lands-room, placeOf}
 use Rattle.unescape.proofs.Stores.{sets-append}
-use Rattle.unescape.specs.Bodies.{Body, Ending, Result, also, bodyOf, fault, isBytes, isSingle, isTemplate, itemBytes, itemOf, judge, measuredOf, noMore, readOf, refuse, refusedAt, turnOf, unescapeOf, whole, writtenOf, wrongCount, wrote}
-use Rattle.unescape.specs.declared.body.Form.{Form}
+use Rattle.unescape.specs.Bodies.{Body, Ending, Result, also, bodyOf, fault, judge, measuredOf, noMore, readOf, refuse, refusedAt, turnOf, unescapeOf, whole, writtenOf, wrongCount, wrote}
 use Rattle.unescape.specs.declared.body.Measured.{Measured}
 use Rattle.unescape.specs.declared.body.Measured.the-variants.{Stopped, Whole}
 use Rattle.unescape.specs.declared.body.Unescaped.the-variants.{Wrote}
-
--- what the code's tests say of the scalar that begins an item
-module _ (form : Form) (v : ℕ) (cs : List ℕ) (p : ℕ) where
-  pub item-byte : isBytes form ≡ true → v ≡ 0x5c → {b : Bool} → b ≡ isSingle form → byteEscape (not b) cs p ≡ itemOf form v cs p
-  unfolding itemOf
-  item-byte k h e = rw (eq-eqb v 0x5c h, k) (ap (λ (x : Bool). byteEscape (not x) cs p) e)
-
-  pub item-char : isBytes form ≡ false → v ≡ 0x5c → {m b : Bool} → m ≡ isTemplate form → b ≡ isSingle form → charEscape m (not b) cs p ≡ itemOf form v cs p
-  unfolding itemOf
-  item-char k h d e = rw (eq-eqb v 0x5c h, k) (ap₂ (λ (x y : Bool). charEscape x (not y) cs p) d e)
-
-  module _ (h : v ≡ 0x5c → ⊥) where
-    pub item-high : isBytes form ≡ true → 0x7f < v → Bad 25 p ≡ itemOf form v cs p
-    unfolding itemOf
-    item-high k l = rw (ne-eqb v 0x5c h, k, lt-ltb 0x7f v l)
-
-    pub item-low : isBytes form ≡ true → v ≤ 0x7f → Item v p ≡ itemOf form v cs p
-    unfolding itemOf
-    item-low k l = rw (ne-eqb v 0x5c h, k, le-ltb 0x7f v l)
-
-    pub item-plain : isBytes form ≡ false → Item v p ≡ itemOf form v cs p
-    unfolding itemOf
-    item-plain k = rw (ne-eqb v 0x5c h, k)
 
 pub arrived : (form : Form) (cs : List ℕ) (t : ℕ) → bodyOf form t cs t ≡ bodyOf form 0 cs t
 unfolding bodyOf

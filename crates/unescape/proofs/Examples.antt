@@ -2,15 +2,17 @@
 use Prim.Native.Nat.{ℕ}
 use mathlib.Core.Path.{_≡_, refl}
 use mathlib.Core.List.{List, [], _∷_}
-use Rattle.classes.specs.Classes.{hexValue, whiteSpace}
+use Rattle.classes.specs.Classes.{whiteSpace}
+use Rattle.digits.specs.Digits.{hexValue}
 use Rattle.encoding.specs.Encode.{bytesOf, encodeOf}
 use Rattle.escapes.specs.Escapes.{byteEscape, byteTurn, charEscape, charTurn, digitsOf, hexOf, hexSecond, sharedOf, skipOf, unicodeOf}
+use Rattle.items.specs.Items.{itemBytes, itemOf}
+use Rattle.items.specs.declared.Form.{Form}
+use Rattle.items.specs.declared.Form.the-variants.{Byte, Char, Text}
 use Rattle.laws.specs.Tables.{inRanges}
-use Rattle.text.specs.Source.{soundTo, sourceTest}
+use Rattle.sound.specs.Source.{soundTo, sourceTest}
 use Rattle.text.specs.Utf8.{after, decode, first, from, leadOf, rest, width}
-use Rattle.unescape.specs.Bodies.{bodyOf, itemBytes, itemOf, judge, readOf, refuse, turnOf, unescapeOf, writtenOf, wrote}
-use Rattle.unescape.specs.declared.body.Form.{Form}
-use Rattle.unescape.specs.declared.body.Form.the-variants.{Byte, Char, Text}
+use Rattle.unescape.specs.Bodies.{bodyOf, judge, readOf, refuse, turnOf, unescapeOf, writtenOf, wrote}
 
 -- the bytes that a body gives, with room for 16
 abbrev Gives : Form → List ℕ → List ℕ → Type 0

@@ -1,5 +1,3 @@
-pub mod Lands
-pub mod Items
 pub mod Stores
 pub mod Bodies
 pub mod Unescaped

@@ -15,22 +15,24 @@ use Rattle.encoding.proofs.Rows.{encode-1, encode-length}
 use Rattle.encoding.specs.Encode.{AllScalar, encodeAll, isScalar}
 use Rattle.escapes.specs.declared.Escape.{Escape}
 use Rattle.escapes.specs.declared.Escape.the-variants.{Bad, Item, Skipped}
+use Rattle.items.proofs.Begins.{item-high, item-low, item-plain}
+use Rattle.items.proofs.Items.{Fits, byte-bytes, escape-fits, item-fits, scalar-bytes}
+use Rattle.items.proofs.Lands.{Lands, here, item-lands, lands-le, pick-of, placeOf}
+use Rattle.items.specs.Items.{isBytes, isSingle, itemBytes, itemOf}
+use Rattle.items.specs.declared.Form.{Form}
 use Rattle.laws.proofs.Cases.{never, split, split-eq, split-le}
 use Rattle.laws.proofs.Determined.{determined}
 use Rattle.laws.specs.Bools.{same}
+use Rattle.sound.proofs.Places.{sound-inv}
+use Rattle.sound.specs.Source.{soundTo, sourceTest}
+use Rattle.sound.specs.declared.Tested.{Tested}
+use Rattle.sound.specs.declared.Tested.the-variants.{IllFormed, Misplaced, Sound, TooLong}
 use Rattle.text.proofs.Decode.{width-pos}
 use Rattle.text.proofs.Leads.{width-1}
-use Rattle.text.proofs.Places.{sound-inv}
-use Rattle.text.specs.Source.{soundTo, sourceTest}
 use Rattle.text.specs.Utf8.{after, decode, rest, width}
-use Rattle.text.specs.declared.source.Tested.{Tested}
-use Rattle.text.specs.declared.source.Tested.the-variants.{IllFormed, Misplaced, Sound, TooLong}
 use Rattle.token.specs.declared.read.Refusal.{Refusal}
-use Rattle.unescape.proofs.Bodies.{arrived, bodyAt, by-ending, item-high, item-low, item-plain, read-fault, read-whole, source-ill, source-long, source-misplaced, source-sound}
-use Rattle.unescape.proofs.Items.{Fits, byte-bytes, escape-fits, item-fits, scalar-bytes}
-use Rattle.unescape.proofs.Lands.{Lands, here, item-lands, lands-le, pick-of, placeOf}
-use Rattle.unescape.specs.Bodies.{Body, Ending, Result, also, bodyOf, fault, isBytes, isSingle, itemBytes, itemOf, noMore, refuse, turnOf, unescapeOf, whole, writtenOf, wrongCount, wrote}
-use Rattle.unescape.specs.declared.body.Form.{Form}
+use Rattle.unescape.proofs.Bodies.{arrived, bodyAt, by-ending, read-fault, read-whole, source-ill, source-long, source-misplaced, source-sound}
+use Rattle.unescape.specs.Bodies.{Body, Ending, Result, also, bodyOf, fault, noMore, refuse, turnOf, unescapeOf, whole, writtenOf, wrongCount, wrote}
 use Rattle.unescape.specs.declared.body.Unescaped.{Unescaped}
 use Rattle.unescape.specs.declared.body.Unescaped.the-variants.{Refused, Wrote}
 

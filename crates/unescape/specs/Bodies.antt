@@ -4,54 +4,19 @@ use mathlib.Core.List.{List, [], _∷_, _++_}
 use mathlib.Core.Bool.{Bool, true, false, not}
 use lib.Dec.{ltb, eqb}
 use lib.ListN.{length}
-use Rattle.encoding.specs.Encode.{encodeOf}
-use Rattle.escapes.specs.Escapes.{byteEscape, charEscape}
 use Rattle.escapes.specs.declared.Escape.{Escape}
 use Rattle.escapes.specs.declared.Escape.the-variants.{Bad, Item, Skipped}
-use Rattle.laws.specs.Bools.{both, pick}
-use Rattle.text.specs.Source.{sourceTest}
+use Rattle.items.specs.Items.{isSingle, itemBytes, itemOf}
+use Rattle.items.specs.declared.Form.{Form}
+use Rattle.laws.specs.Bools.{pick}
+use Rattle.sound.specs.Source.{sourceTest}
+use Rattle.sound.specs.declared.Tested.the-variants.{IllFormed, Misplaced, Sound, TooLong}
 use Rattle.text.specs.Utf8.{rest, width}
-use Rattle.text.specs.declared.source.Tested.the-variants.{IllFormed, Misplaced, Sound, TooLong}
 use Rattle.token.specs.Reads.{spanOf}
-use Rattle.unescape.specs.declared.body.Form.{Form}
-use Rattle.unescape.specs.declared.body.Form.the-variants.{Byte, ByteText, Char, Template, Text}
 use Rattle.unescape.specs.declared.body.Measured.{Measured}
 use Rattle.unescape.specs.declared.body.Measured.the-variants.{Stopped, Whole}
 use Rattle.unescape.specs.declared.body.Unescaped.{Unescaped}
 use Rattle.unescape.specs.declared.body.Unescaped.the-variants.{Refused, Wrote}
-
-abbrev pub isBytes : Form → Bool
-isBytes Text = false
-isBytes Template = false
-isBytes Char = false
-isBytes ByteText = true
-isBytes Byte = true
-
-abbrev pub isTemplate : Form → Bool
-isTemplate Text = false
-isTemplate Template = true
-isTemplate Char = false
-isTemplate ByteText = false
-isTemplate Byte = false
-
--- a char or a byte is one item, and does not go on in the next line
-abbrev pub isSingle : Form → Bool
-isSingle Text = false
-isSingle Template = false
-isSingle Char = true
-isSingle ByteText = false
-isSingle Byte = true
-
--- a scalar that is no backslash stands for itself; 25 above U+007F in bytes
-abbrev pub plainOf : Form → ℕ → ℕ → Escape
-plainOf form v p = pick (both (isBytes form) (ltb 0x7f v)) (Bad 25 p) (Item v p)
-
-abbrev pub escapeOf : Form → List ℕ → ℕ → Escape
-escapeOf form cs p = pick (isBytes form) (byteEscape (not (isSingle form)) cs p) (charEscape (isTemplate form) (not (isSingle form)) cs p)
-
--- what the scalar v begins; the scalars cs behind it stand at p
-unfoldable pub itemOf : Form → ℕ → List ℕ → ℕ → Escape
-itemOf form v cs p = pick (eqb v 0x5c) (escapeOf form cs p) (plainOf form v p)
 
 -- how the items end: with the body, or at the first of 20 to 25, with its number and span
 pub data Ending : Type 0 where
@@ -83,10 +48,6 @@ bodyOf form t (v ∷ cs) p =
       | true ↦ bodyOf form t cs (p + width v)
       | false ↦ turnOf p (itemOf form v cs (p + width v)) (λ n. bodyOf form n cs (p + width v))
     ]
-
--- scalars as UTF-8, bytes as they are
-unfoldable pub itemBytes : Form → ℕ → List ℕ
-itemBytes form x = pick (isBytes form) (x ∷ []) (encodeOf x)
 
 unfoldable pub writtenOf : Form → List ℕ → List ℕ
 writtenOf form [] = []

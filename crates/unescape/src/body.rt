@@ -1,15 +1,16 @@
 // A whole body: measured first, so that a refusal writes nothing, and then written.
 use encoding::Encoded;
 use escapes::Escape;
-use escapes::parse_byte_escape;
-use escapes::parse_char_escape;
+use items::Form;
+use items::is_bytes;
+use items::is_single;
+use items::item_at;
+use sound::Tested;
 use text::Scalar;
-use text::Tested;
 use token::Refusal;
 use token::Span;
 use token::refusal::ILL_FORMED;
 use token::refusal::NO_PLACE;
-use token::refusal::NOT_ASCII;
 use token::refusal::NOT_ONE_ITEM;
 use token::refusal::OUTPUT_SHORT;
 use token::refusal::TOO_LONG;
@@ -19,17 +20,9 @@ ghost use mathlib.Core.Bool.{true};
 ghost use lib.Seq.{sets};
 ghost use lib.ListN.{length, take};
 ghost use Rattle.encoding.specs.Encode.{padded};
+ghost use Rattle.items.specs.Items.{isBytes, itemBytes};
 ghost use Rattle.text.specs.Utf8.{rest};
-ghost use Rattle.unescape.specs.Bodies.{bodyOf, isBytes, isSingle, isTemplate, itemBytes, itemOf, measuredOf, readOf, refusedAt, unescapeOf, writtenOf, wrongCount};
-
-// How a body is read. A char or a byte is one item.
-pub enum Form {
-    Text,
-    Template,
-    Char,
-    ByteText,
-    Byte,
-}
+ghost use Rattle.unescape.specs.Bodies.{bodyOf, measuredOf, readOf, refusedAt, unescapeOf, writtenOf, wrongCount};
 
 // How many bytes were written, or why none.
 pub enum Unescaped {
@@ -48,64 +41,6 @@ enum Measured {
         start: usize,
         end: usize,
     },
-}
-
-fn is_bytes(form: Form) -> bool
-    ensures { λ r. ⌜ r ≡ isBytes form ⌝ }
-{
-    match form {
-        Form::Text => false,
-        Form::Template => false,
-        Form::Char => false,
-        Form::ByteText => true,
-        Form::Byte => true,
-    }
-}
-
-fn is_single(form: Form) -> bool
-    ensures { λ r. ⌜ r ≡ isSingle form ⌝ }
-{
-    match form {
-        Form::Text => false,
-        Form::Template => false,
-        Form::Char => true,
-        Form::ByteText => false,
-        Form::Byte => true,
-    }
-}
-
-fn is_template(form: Form) -> bool
-    ensures { λ r. ⌜ r ≡ isTemplate form ⌝ }
-{
-    match form {
-        Form::Text => false,
-        Form::Template => true,
-        Form::Char => false,
-        Form::ByteText => false,
-        Form::Byte => false,
-    }
-}
-
-// What the scalar v begins, with `next` behind it.
-fn item_at(s: &[u8], form: Form, v: u32, next: usize) -> Escape
-    ensures { λ r. ⌜ r ≡ itemOf form v (rest (now (s .entry)) next) next ⌝ }
-{
-    if is_bytes(form) {
-        if v == 0x5c {
-            return parse_byte_escape(s, next, !is_single(form));
-        }
-        if 0x7f < v {
-            return Escape::Bad {
-                number: NOT_ASCII,
-                next,
-            };
-        }
-        return Escape::Item { value: v, next };
-    }
-    if v == 0x5c {
-        return parse_char_escape(s, next, is_template(form), !is_single(form));
-    }
-    Escape::Item { value: v, next }
 }
 
 // The bytes of an item.
@@ -242,7 +177,7 @@ pub fn unescape(body: &[u8], form: Form, out: &mut [u8]) -> Unescaped
     ensures answer { λ r. ⌜ r ≡ unescapeOf form (now (body .entry)) (length (now (out .entry))) .answer ⌝ }
     ensures bytes { λ _. ⌜ now (out .exit) ≡ sets (now (out .entry)) 0 (unescapeOf form (now (body .entry)) (length (now (out .entry))) .bytes) ⌝ }
 {
-    match text::test_source(body) {
+    match sound::test_source(body) {
         Tested::Sound => unescape_sound(body, form, out),
         Tested::TooLong => refuse(TOO_LONG, 0, 0),
         Tested::IllFormed { at } => refuse(ILL_FORMED, at, at),

@@ -52,7 +52,7 @@ fn digit_at(s: &[u8], at: usize) -> bool
     let Scalar::One { value, next: _ } = text::scalar_at(s, at) else {
         return false;
     };
-    classes::is_ascii_digit(value)
+    digits::is_ascii_digit(value)
 }
 
 pub fn next_number_literal(s: &[u8], start: usize, at: usize) -> Read

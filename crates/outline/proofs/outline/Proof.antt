@@ -3,7 +3,7 @@ use borrow.Author.Needs.{needs}
 use lib.Seq.{sets}
 use lib.ListN.{length}
 use Rattle.outline.proofs.Shading.{by-test}
-use Rattle.text.specs.declared.source.Tested.the-variants.{IllFormed, Misplaced, Sound, TooLong}
+use Rattle.sound.specs.declared.Tested.the-variants.{IllFormed, Misplaced, Sound, TooLong}
 use Rattle.outline.proofs.outline.Statement.{statement}
 use Rattle.outline.proofs.outline.Tie as tie
 

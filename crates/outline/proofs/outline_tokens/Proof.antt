@@ -3,8 +3,8 @@ use mathlib.Core.Path.{refl, ap, _∙_}
 use native.Mathlib.Omega.{arith}
 use borrow.Author.Needs.{needs}
 use lib.ListN.{length}
+use Rattle.marks.proofs.Marks.{open-few}
 use Rattle.numbers.specs.Kinds.{numberOf}
-use Rattle.outline.proofs.Marks.{open-few}
 use Rattle.outline.proofs.Shading.{Shaded, shade-fin, shade-halt, shade-more, shade-past, shade-room, shaded-first}
 use Rattle.outline.proofs.outline_tokens.Statement.{statement}
 use Rattle.outline.proofs.outline_tokens.Tie as tie

@@ -20,14 +20,14 @@ shared-slice-read-b c = search needs
 digit-requires : tie.Need-digit-requires Inv-loop μ-loop
 digit-requires c κs = search needs
 
-emit-requires : tie.Need-emit-requires Inv-loop μ-loop
-emit-requires c κs = search needs
+put-requires : tie.Need-put-requires Inv-loop μ-loop
+put-requires c κs = search needs
 
 digit-requires-2 : tie.Need-digit-requires-2 Inv-loop μ-loop
 digit-requires-2 c κs = search needs
 
-emit-requires-2 : tie.Need-emit-requires-2 Inv-loop μ-loop
-emit-requires-2 c κs = search needs
+put-requires-2 : tie.Need-put-requires-2 Inv-loop μ-loop
+put-requires-2 c κs = search needs
 
 add-i : tie.Need-add-i Inv-loop μ-loop
 add-i c = search needs
@@ -53,9 +53,9 @@ emit-hex-spec =
     loop-holds
     shared-slice-read-b
     digit-requires
-    emit-requires
+    put-requires
     digit-requires-2
-    emit-requires-2
+    put-requires-2
     add-i
     loop-less
     loop-again

@@ -2,7 +2,7 @@ use mathlib.Core.Path.{sym, ap, _∙_}
 use native.Mathlib.Omega.{arith}
 use borrow.Author.Needs.{needs}
 use Rattle.encoding.specs.Encode.{encodedOf, padded}
-use Rattle.unescape.proofs.Items.{byte-bytes, scalar-bytes}
+use Rattle.items.proofs.Items.{byte-bytes, scalar-bytes}
 use Rattle.unescape.proofs.body.item_bytes.Statement.{statement}
 use Rattle.unescape.proofs.body.item_bytes.Tie as tie
 

@@ -4,9 +4,9 @@ use native.Mathlib.Omega.{arith}
 use borrow.Author.Needs.{needs}
 use lib.ListN.{length}
 use Rattle.encoding.specs.declared.Encoded.{Encoded}
+use Rattle.items.proofs.Lands.{placeOf}
 use Rattle.text.proofs.Decode.{step-none, step-one}
 use Rattle.unescape.proofs.Bodies.{Measuring, fits-here, measured-bad, measured-end, measuring-first, measuring-item, measuring-skipped, next-past, next-room}
-use Rattle.unescape.proofs.Lands.{placeOf}
 use Rattle.unescape.proofs.body.measure.Statement.{statement}
 use Rattle.unescape.proofs.body.measure.Tie as tie
 

@@ -5,12 +5,12 @@ use borrow.Author.Needs.{needs}
 use lib.Seq.{sets}
 use lib.ListN.{length}
 use Rattle.encoding.specs.declared.Encoded.{Encoded}
+use Rattle.items.proofs.Items.{item-four}
+use Rattle.items.proofs.Lands.{placeOf}
+use Rattle.items.specs.Items.{itemBytes}
 use Rattle.text.proofs.Decode.{step-none, step-one}
 use Rattle.unescape.proofs.Bodies.{Writing, fits-here, next-past, next-room, room-here, writing-first, writing-item, writing-skipped, written-bad, written-end}
-use Rattle.unescape.proofs.Items.{item-four}
-use Rattle.unescape.proofs.Lands.{placeOf}
 use Rattle.unescape.proofs.Stores.{padded-front, padded-size}
-use Rattle.unescape.specs.Bodies.{itemBytes}
 use Rattle.unescape.proofs.body.write_items.Statement.{statement}
 use Rattle.unescape.proofs.body.write_items.Tie as tie
 

@@ -1,0 +1,2 @@
+fill('flush', {'slice-aggregate-write-all': 'let h = sym (length-take-le (@Start .args .waiting) (@Start .args .out .now) (omega (arith, @if1 .taken))) in search needs'}, head='What waits is the front of the buffer. Assumes nothing.')
+fill('put_bytes', {'Inv-loop': 'length out ≡ length out₀', 'μ-loop': 'length bytes - i'}, head='The bytes left fall, and the buffer keeps its length. Assumes nothing.')

@@ -1,0 +1,64 @@
+// The token reader and the template reader, which call each other with the remaining depth falling.
+use choice::read_first;
+use text::Scalar;
+use token::Kind;
+use token::Read;
+ghost use mathlib.Core.Path.{_≡_};
+ghost use Rattle.readers.specs.Rules.{base};
+ghost use Rattle.templates.specs.Body.{templateOf, tokenOf};
+ghost use Rattle.text.specs.Utf8.{rest};
+
+// The token at a place, within which `depth` templates may still open, one inside the other.
+pub fn read_token(s: &[u8], at: usize, depth: u32) -> Read
+    ensures { λ r. ⌜ r ≡ tokenOf base depth (rest (now (s .entry)) at) at ⌝ }
+{
+    let Scalar::One { value, next } = text::scalar_at(s, at) else {
+        return token::got(Kind::Eof, at, at);
+    };
+    if value != 96 {
+        return read_first(s, value, at, next);
+    }
+    if depth == 0 {
+        return token::refused(19, at, next, next);
+    }
+    read_template(s, at, next, depth - 1)
+}
+
+// A template that starts at `start`, from behind its backtick on.
+fn read_template(s: &[u8], start: usize, at: usize, depth: u32) -> Read
+    ensures { λ r. ⌜ r ≡ templateOf base (tokenOf base depth) start (rest (now (s .entry)) at) at ⌝ }
+{
+    let mut p = at;
+    let mut level: u32 = 0;
+    loop {
+        let Scalar::One { value, next } = text::scalar_at(s, p) else {
+            return token::got(Kind::Template { closed: false }, start, p);
+        };
+        if value == 96 {
+            if level == 0 {
+                return token::got(Kind::Template { closed: true }, start, next);
+            }
+            p = next;
+        } else if value == 123 {
+            level = std::num::wrapping_add_u32(level, 1);
+            p = next;
+        } else if value == 125 {
+            level = std::num::wrapping_sub_u32(level, 1);
+            p = next;
+        } else if value == 92 {
+            match read_token(s, next, depth) {
+                Read::Got { token } => {
+                    p = token.span.end;
+                }
+                Read::Refused { refusal } => {
+                    if refusal.number == 19 {
+                        return token::refused(19, start, refusal.span.end, refusal.reached);
+                    }
+                    p = refusal.reached;
+                }
+            }
+        } else {
+            p = next;
+        }
+    }
+}
