@@ -4,22 +4,16 @@ use mathlib.Core.Path.{_≡_, ap, _∙_, subst}
 use mathlib.Core.List.{List}
 use lib.Seq.{sets}
 use lib.ListN.{length}
-use borrow.Author.Tests.{ne-eqb}
+use Rattle.answers.specs.Told.{formOf, formed, ofUnescaped, toldAs}
+use Rattle.answers.specs.declared.Told.{Told}
+use Rattle.answers.specs.declared.form.Named.{Named}
+use Rattle.answers.specs.declared.form.Named.the-variants.{NoForm, OneForm}
 use Rattle.laws.specs.Bools.{same}
-use Rattle.puffsatchel.specs.Answers.{formOf, formed, ofUnescaped, toldAs}
-use Rattle.puffsatchel.specs.declared.form.Named.{Named}
-use Rattle.puffsatchel.specs.declared.form.Named.the-variants.{Known, Unknown}
-use Rattle.puffsatchel.specs.declared.told.Told.{Told}
 use Rattle.unescape.specs.Bodies.{unescapeOf}
 use Rattle.unescape.specs.declared.body.Form.{Form}
 
 pub tells : (r : ℕ) (l : List ℕ) (t u : Told) → (r ≡ t .number) × (l ≡ t .words) → t ≡ u → (r ≡ u .number) × (l ≡ u .words)
 tells r l t u h e = (h .0 ∙ ap (λ (x : Told). x .number) e, h .1 ∙ ap (λ (x : Told). x .words) e)
-
--- a number other than the five
-pub form-none : (n : ℕ) → (n ≡ 1 → ⊥) → (n ≡ 2 → ⊥) → (n ≡ 3 → ⊥) → (n ≡ 4 → ⊥) → (n ≡ 5 → ⊥) → Unknown ≡ formOf n
-unfolding formOf
-form-none n a b c d e = rw (ne-eqb n 1 a, ne-eqb n 2 b, ne-eqb n 3 c, ne-eqb n 4 d, ne-eqb n 5 e)
 
 module _ (r n : ℕ) (s o w l : List ℕ) where
   -- what a body's call promises, at the form that its number names
@@ -29,11 +23,11 @@ module _ (r n : ℕ) (s o w l : List ℕ) where
       × (w ≡ sets o 0 (formed m s (length o) .bytes))
       × (l ≡ ofUnescaped (formed m s (length o) .answer) .words)
 
-  pub by-none : w ≡ o → Unknown ≡ formOf n → (r ≡ toldAs 5 0 0 0 0 0 .number) × (l ≡ toldAs 5 0 0 0 0 0 .words) → Formed (formOf n)
+  pub by-none : w ≡ o → NoForm ≡ formOf n → (r ≡ toldAs 5 0 0 0 0 0 .number) × (l ≡ toldAs 5 0 0 0 0 0 .words) → Formed (formOf n)
   unfolding formed
   by-none same e h = subst Formed e (h .0, same, h .1)
 
-  pub by-form : (f : Form) → Known f ≡ formOf n → (r ≡ ofUnescaped (unescapeOf f s (length o) .answer) .number) × (l ≡ ofUnescaped (unescapeOf f s (length o) .answer) .words)
+  pub by-form : (f : Form) → OneForm f ≡ formOf n → (r ≡ ofUnescaped (unescapeOf f s (length o) .answer) .number) × (l ≡ ofUnescaped (unescapeOf f s (length o) .answer) .words)
       → w ≡ sets o 0 (unescapeOf f s (length o) .bytes) → Formed (formOf n)
   unfolding formed
   by-form f e h k = subst Formed e (h .0, k, h .1)

@@ -1,20 +1,17 @@
 // The calls for C and Rust (include/puffsatchel.h): the result is a refusal's number, 0 where there is none, and the rest of the answer goes to
 // five lent words. Each equals the definition of the call below it, on every input; none keeps or allocates memory.
-mod form;
-mod told;
-
+use answers::Named;
+use answers::tell;
 ghost use mathlib.Core.Path.{_≡_};
 ghost use lib.Seq.{sets};
 ghost use lib.ListN.{length};
+ghost use Rattle.answers.specs.Told.{formOf, formed, ofListed, ofOutlined, ofRead, ofStored, ofTested, ofUnescaped};
 ghost use Rattle.lexer.specs.Next.{nextAt, readAt};
 ghost use Rattle.listing.specs.Listing.{listOf, storedOf};
 ghost use Rattle.outline.specs.Outline.{outlineOf, writtenOf};
-ghost use Rattle.puffsatchel.specs.Answers.{formOf, formed, ofListed, ofOutlined, ofRead, ofStored, ofTested, ofUnescaped, version};
+ghost use Rattle.puffsatchel.specs.Version.{version};
 ghost use Rattle.storage.specs.Storage.{readBy, readOf, writeOf, writtenBy};
 ghost use Rattle.text.specs.Source.{sourceTest};
-use form::Named;
-use told::tell;
-use unescape::Unescaped;
 
 // A number that names none of the five forms. No document uses it.
 const NO_SUCH_FORM: u32 = 5;
@@ -30,14 +27,14 @@ pub extern "C" fn puffsatchel_version() -> u32
 pub extern "C" fn puffsatchel_test(source: &[u8], answer: &mut [usize; 5]) -> u32
     ensures { λ r. ⌜ (r ≡ ofTested (sourceTest (now (source .entry))) .number) × (now (answer .exit) ≡ ofTested (sourceTest (now (source .entry))) .words) ⌝ }
 {
-    tell(told::of_tested(text::test_source(source)), answer)
+    tell(answers::of_tested(text::test_source(source)), answer)
 }
 
 #[no_mangle]
 pub extern "C" fn puffsatchel_read(source: &[u8], at: usize, answer: &mut [usize; 5]) -> u32
     ensures { λ r. ⌜ (r ≡ ofRead (readAt (now (source .entry)) at) .number) × (now (answer .exit) ≡ ofRead (readAt (now (source .entry)) at) .words) ⌝ }
 {
-    tell(told::of_read(lexer::read(source, at)), answer)
+    tell(answers::of_read(lexer::read(source, at)), answer)
 }
 
 // For a source that puffsatchel_test has accepted; total on every other.
@@ -45,7 +42,7 @@ pub extern "C" fn puffsatchel_read(source: &[u8], at: usize, answer: &mut [usize
 pub extern "C" fn puffsatchel_next(source: &[u8], at: usize, answer: &mut [usize; 5]) -> u32
     ensures { λ r. ⌜ (r ≡ ofRead (nextAt (now (source .entry)) at) .number) × (now (answer .exit) ≡ ofRead (nextAt (now (source .entry)) at) .words) ⌝ }
 {
-    tell(told::of_read(lexer::next(source, at)), answer)
+    tell(answers::of_read(lexer::next(source, at)), answer)
 }
 
 #[no_mangle]
@@ -55,7 +52,7 @@ pub extern "C" fn puffsatchel_list(source: &[u8], store: &mut [u32], answer: &mu
         × (now (answer .exit) ≡ ofListed (listOf (now (source .entry)) (length (now (store .entry)))) .words) ⌝ }
 {
     let listed = listing::list(source, store);
-    tell(told::of_listed(listed), answer)
+    tell(answers::of_listed(listed), answer)
 }
 
 #[no_mangle]
@@ -65,7 +62,7 @@ pub extern "C" fn puffsatchel_outline(source: &[u8], out: &mut [u8], answer: &mu
         × (now (answer .exit) ≡ ofOutlined (outlineOf (now (source .entry)) (length (now (out .entry)))) .words) ⌝ }
 {
     let outlined = outline::outline(source, out);
-    tell(told::of_outlined(outlined), answer)
+    tell(answers::of_outlined(outlined), answer)
 }
 
 #[no_mangle]
@@ -79,11 +76,11 @@ pub extern "C" fn puffsatchel_unescape(
         × (now (out .exit) ≡ sets (now (out .entry)) 0 (formed (formOf form) (now (escaped .entry)) (length (now (out .entry))) .bytes))
         × (now (answer .exit) ≡ ofUnescaped (formed (formOf form) (now (escaped .entry)) (length (now (out .entry))) .answer) .words) ⌝ }
 {
-    let Named::Known { form: known } = form::form_of(form) else {
-        return tell(told::point(NO_SUCH_FORM, 0), answer);
+    let Named::OneForm { form: known } = answers::form_of(form) else {
+        return tell(answers::point(NO_SUCH_FORM, 0), answer);
     };
     let unescaped = unescape::unescape(escaped, known, out);
-    tell(told::of_unescaped(unescaped), answer)
+    tell(answers::of_unescaped(unescaped), answer)
 }
 
 // A token list, three words a token, as stored records.
@@ -94,7 +91,7 @@ pub extern "C" fn puffsatchel_store(list: &[u32], out: &mut [u8], answer: &mut [
         × (now (answer .exit) ≡ ofStored (writeOf (now (list .entry)) (length (now (out .entry)))) .words) ⌝ }
 {
     let written = storage::write(list, out);
-    tell(told::of_stored(written), answer)
+    tell(answers::of_stored(written), answer)
 }
 
 // Stored records as a token list.
@@ -105,5 +102,5 @@ pub extern "C" fn puffsatchel_load(bytes: &[u8], out: &mut [u32], answer: &mut [
         × (now (answer .exit) ≡ ofStored (readOf (now (bytes .entry)) (length (now (out .entry)))) .words) ⌝ }
 {
     let loaded = storage::read(bytes, out);
-    tell(told::of_stored(loaded), answer)
+    tell(answers::of_stored(loaded), answer)
 }

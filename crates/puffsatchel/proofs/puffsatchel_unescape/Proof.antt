@@ -1,7 +1,7 @@
 use mathlib.Core.Path.{refl, sym, ap, _∙_}
 use borrow.Author.Needs.{needs}
+use Rattle.answers.specs.Told.{ofUnescaped}
 use Rattle.puffsatchel.proofs.Tells.{by-form, by-none, tells}
-use Rattle.puffsatchel.specs.Answers.{ofUnescaped}
 use Rattle.puffsatchel.proofs.puffsatchel_unescape.Statement.{statement}
 use Rattle.puffsatchel.proofs.puffsatchel_unescape.Tie as tie
 

@@ -1,8 +1,8 @@
 use mathlib.Core.Path.{sym, ap, _∙_}
 use borrow.Author.Needs.{needs}
-use Rattle.puffsatchel.specs.Answers.{ofOutlined}
-use Rattle.puffsatchel.proofs.told.of_outlined.Statement.{statement}
-use Rattle.puffsatchel.proofs.told.of_outlined.Tie as tie
+use Rattle.answers.specs.Told.{ofOutlined}
+use Rattle.answers.proofs.of_outlined.Statement.{statement}
+use Rattle.answers.proofs.of_outlined.Tie as tie
 
 enum-told : tie.Need-enum-told
 enum-told c = search needs

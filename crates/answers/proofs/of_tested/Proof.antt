@@ -1,8 +1,8 @@
 use mathlib.Core.Path.{sym, ap, _∙_}
 use borrow.Author.Needs.{needs}
-use Rattle.puffsatchel.specs.Answers.{ofTested}
-use Rattle.puffsatchel.proofs.told.of_tested.Statement.{statement}
-use Rattle.puffsatchel.proofs.told.of_tested.Tie as tie
+use Rattle.answers.specs.Told.{ofTested}
+use Rattle.answers.proofs.of_tested.Statement.{statement}
+use Rattle.answers.proofs.of_tested.Tie as tie
 
 enum-told : tie.Need-enum-told
 enum-told c = search needs

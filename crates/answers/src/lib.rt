@@ -1,4 +1,10 @@
-// What a call answers, in numbers.
+// What a call answers, in numbers, for callers in other languages: each equals its definition in specs/.
+mod form;
+
+ghost use mathlib.Core.Path.{_≡_};
+ghost use Rattle.answers.specs.Told.{ofListed, ofOutlined, ofRead, ofRefusal, ofStored, ofTested, ofUnescaped, toldAs};
+pub use form::Named;
+pub use form::form_of;
 use listing::Listed;
 use outline::Outlined;
 use storage::Stored;
@@ -6,8 +12,6 @@ use text::Tested;
 use token::Read;
 use token::Refusal;
 use unescape::Unescaped;
-ghost use mathlib.Core.Path.{_≡_};
-ghost use Rattle.puffsatchel.specs.Answers.{ofListed, ofOutlined, ofRead, ofRefusal, ofStored, ofTested, ofUnescaped, toldAs};
 
 // The number of a refusal, 0 where there is none; and value, count, start, end and the place reached.
 pub struct Told {

@@ -8,9 +8,9 @@ use Rattle.listing.specs.declared.Listed.the-variants.{Whole as AllListed, Stop
 use Rattle.numbers.specs.Kinds.{numberOf}
 use Rattle.outline.specs.declared.Outlined.{Outlined}
 use Rattle.outline.specs.declared.Outlined.the-variants.{Whole as AllOutlined, Stopped as OutlinedUpTo}
-use Rattle.puffsatchel.specs.declared.form.Named.{Named}
-use Rattle.puffsatchel.specs.declared.form.Named.the-variants.{Known, Unknown}
-use Rattle.puffsatchel.specs.declared.told.Told.{Told}
+use Rattle.answers.specs.declared.form.Named.{Named}
+use Rattle.answers.specs.declared.form.Named.the-variants.{OneForm, NoForm}
+use Rattle.answers.specs.declared.Told.{Told}
 use Rattle.storage.specs.declared.Stored.{Stored}
 use Rattle.storage.specs.declared.Stored.the-variants.{Done as IsStored, Refused as NotStored}
 use Rattle.text.specs.Source.{testNumber, testPoint}
@@ -22,10 +22,6 @@ use Rattle.unescape.specs.Bodies.{Result, refuse, unescapeOf}
 use Rattle.unescape.specs.declared.body.Form.the-variants.{Byte, ByteText, Char, Template, Text}
 use Rattle.unescape.specs.declared.body.Unescaped.{Unescaped}
 use Rattle.unescape.specs.declared.body.Unescaped.the-variants.{Wrote as IsWritten, Refused as NotWritten}
-
--- goes up with every change of a call, of a number or of what is promised
-abbrev pub version : ℕ
-version = 1
 
 -- what a call does not give is 0
 abbrev pub toldAs : ℕ → ℕ → ℕ → ℕ → ℕ → ℕ → Told
@@ -65,13 +61,13 @@ ofStored (NotStored r) = ofRefusal 0 r
 -- the forms of a body by number, in document 01's order
 unfoldable pub formOf : ℕ → Named
 formOf n =
-    pick (eqb n 1) (Known Text)
-    (pick (eqb n 2) (Known Template)
-    (pick (eqb n 3) (Known Char)
-    (pick (eqb n 4) (Known ByteText)
-    (pick (eqb n 5) (Known Byte) Unknown))))
+    pick (eqb n 1) (OneForm Text)
+    (pick (eqb n 2) (OneForm Template)
+    (pick (eqb n 3) (OneForm Char)
+    (pick (eqb n 4) (OneForm ByteText)
+    (pick (eqb n 5) (OneForm Byte) NoForm))))
 
 -- 5, before all else: the number names no form
 unfoldable pub formed : Named → List ℕ → ℕ → Result
-formed (Known form) s room = unescapeOf form s room
-formed Unknown s room = refuse 5 0 0
+formed (OneForm form) s room = unescapeOf form s room
+formed NoForm s room = refuse 5 0 0

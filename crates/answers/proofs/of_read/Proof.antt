@@ -1,9 +1,9 @@
 use Prim.Native.Nat.{ℕ}
 use mathlib.Core.Path.{sym, ap, _∙_}
 use borrow.Author.Needs.{needs}
-use Rattle.puffsatchel.specs.Answers.{ofRead, toldAs}
-use Rattle.puffsatchel.proofs.told.of_read.Statement.{statement}
-use Rattle.puffsatchel.proofs.told.of_read.Tie as tie
+use Rattle.answers.specs.Told.{ofRead, toldAs}
+use Rattle.answers.proofs.of_read.Statement.{statement}
+use Rattle.answers.proofs.of_read.Tie as tie
 
 enum-known-answer : tie.Need-enum-known-answer
 enum-known-answer c = search needs

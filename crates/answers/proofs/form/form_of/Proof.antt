@@ -1,8 +1,8 @@
 use mathlib.Core.Path.{sym, ap}
-use Rattle.puffsatchel.proofs.Tells.{form-none}
-use Rattle.puffsatchel.specs.Answers.{formOf}
-use Rattle.puffsatchel.proofs.form.form_of.Statement.{statement}
-use Rattle.puffsatchel.proofs.form.form_of.Tie as tie
+use Rattle.answers.proofs.Forms.{form-none}
+use Rattle.answers.specs.Told.{formOf}
+use Rattle.answers.proofs.form.form_of.Statement.{statement}
+use Rattle.answers.proofs.form.form_of.Tie as tie
 
 returns : tie.Need-returns
 unfolding formOf
