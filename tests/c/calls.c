@@ -1,10 +1,16 @@
 /* Every call of the library, on good and bad input. What is expected is document 01's, not what the library once answered.
- * Before each call the lent memory is filled with a mark, and afterwards all of it is compared: what was written and what was not. */
+ * Before each call the lent memory is filled with a mark, and afterwards all of it is compared: what was written and what was not.
+ * What is only read stands before a page that cannot be touched: a byte too many ends the test. */
+#ifndef _DEFAULT_SOURCE
+#define _DEFAULT_SOURCE
+#endif
+
 #include "puffsatchel.h"
 
 #include <stdio.h>
-#include <stdlib.h>
 #include <string.h>
+#include <sys/mman.h>
+#include <unistd.h>
 
 static int failed = 0;
 static int passed = 0;
@@ -33,23 +39,38 @@ static int answered(size_t value, size_t count, size_t start, size_t end, size_t
     return answer.value == value && answer.count == count && answer.start == start && answer.end == end && answer.reached == reached;
 }
 
-static const uint8_t *bytes(const char *text) {
-    return (const uint8_t *)text;
+/* Memory of so many bytes that ends where a page begins that cannot be touched. */
+static uint8_t *edge(size_t len) {
+    const size_t page = 4096;
+    const size_t room = (len + page - 1) / page * page;
+    uint8_t *start = (uint8_t *)mmap(NULL, room + page, PROT_READ | PROT_WRITE, MAP_PRIVATE | MAP_ANONYMOUS, -1, 0);
+    if (start == (uint8_t *)MAP_FAILED || mprotect(start + room, page, PROT_NONE) != 0) {
+        printf("tests/c/calls.c: no memory for %lu bytes\n", (unsigned long)len);
+        _exit(2);
+    }
+    return start + room - len;
+}
+
+static uint8_t *last;
+
+static const uint8_t *bytes(const char *text, size_t len) {
+    if (len != 0) memcpy(last - len, text, len);
+    return last - len;
 }
 
 static uint32_t test(const char *text, size_t len) {
     forget();
-    return puffsatchel_test(bytes(text), len, &answer);
+    return puffsatchel_test(bytes(text, len), len, &answer);
 }
 
 static uint32_t read_at(const char *text, size_t len, size_t at) {
     forget();
-    return puffsatchel_read(bytes(text), len, at, &answer);
+    return puffsatchel_read(bytes(text, len), len, at, &answer);
 }
 
 static uint32_t next_at(const char *text, size_t len, size_t at) {
     forget();
-    return puffsatchel_next(bytes(text), len, at, &answer);
+    return puffsatchel_next(bytes(text, len), len, at, &answer);
 }
 
 #define READ(text, at) read_at(text, sizeof(text) - 1, at)
@@ -63,7 +84,7 @@ static uint32_t list(const char *text, size_t len, size_t room) {
     size_t i;
     for (i = 0; i < 64; i++) store[i] = MARK_WORD;
     forget();
-    return puffsatchel_list(bytes(text), len, store, room, &answer);
+    return puffsatchel_list(bytes(text, len), len, store, room, &answer);
 }
 
 static int stored(const uint32_t *words, size_t count) {
@@ -94,12 +115,12 @@ static int wrote(const char *text, size_t len) {
 
 static uint32_t outline(const char *text, size_t len, size_t room) {
     clear_out();
-    return puffsatchel_outline(bytes(text), len, out, room, &answer);
+    return puffsatchel_outline(bytes(text, len), len, out, room, &answer);
 }
 
 static uint32_t unescape(const char *text, size_t len, uint32_t form, size_t room) {
     clear_out();
-    return puffsatchel_unescape(bytes(text), len, form, out, room, &answer);
+    return puffsatchel_unescape(bytes(text, len), len, form, out, room, &answer);
 }
 
 #define OUTLINE(text, room) outline(text, sizeof(text) - 1, room)
@@ -225,7 +246,7 @@ static uint32_t load_list(const char *records, size_t len, size_t room) {
     size_t i;
     for (i = 0; i < 64; i++) store[i] = MARK_WORD;
     forget();
-    return puffsatchel_load(bytes(records), len, store, room, &answer);
+    return puffsatchel_load(bytes(records, len), len, store, room, &answer);
 }
 
 #define A_RECORD "\x54\x4b\x06\x00\x00\x00\x00\x01\x00\x00\x00"
@@ -265,18 +286,14 @@ static void loads(void) {
     EXPECT(LOAD(A_RECORD SEMI_RECORD, 5) == PUFFSATCHEL_NO_ROOM && answered(0, 0, 0, 0, 0) && stored(store, 0));
 }
 
-/* The largest source, and one byte more: on memory of just that size, so that a watched run sees a byte too many. */
+/* The largest source, and one byte more. */
 static void largest(void) {
     const size_t most = PUFFSATCHEL_LARGEST_SOURCE;
-    char *text = (char *)malloc(most + 1);
-    uint32_t *words = (uint32_t *)malloc(PUFFSATCHEL_LARGEST_LIST * sizeof(uint32_t));
-    uint8_t *records = (uint8_t *)malloc(PUFFSATCHEL_LARGEST_STORED);
+    char *text = (char *)edge(most + 1);
+    uint32_t *words = (uint32_t *)(void *)edge(PUFFSATCHEL_LARGEST_LIST * sizeof(uint32_t));
+    uint8_t *records = edge(PUFFSATCHEL_LARGEST_STORED);
     size_t i;
     int right = 1;
-    if (!text || !words || !records) {
-        EXPECT(!"memory");
-        return;
-    }
     memset(text, ';', most + 1);
     EXPECT(test(text, most) == 0);
     EXPECT(test(text, most + 1) == PUFFSATCHEL_TOO_LONG && answered(0, 0, 0, 0, 0));
@@ -287,7 +304,7 @@ static void largest(void) {
     EXPECT(outline(text, most, 64) == PUFFSATCHEL_NO_ROOM && answered(0, 0, 0, 0, 0) && WROTE(""));
     EXPECT(unescape(text, most + 1, PUFFSATCHEL_FORM_TEXT, 64) == PUFFSATCHEL_TOO_LONG && answered(0, 0, 0, 0, 0) && WROTE(""));
     forget();
-    EXPECT(puffsatchel_list(bytes(text), most, words, PUFFSATCHEL_LARGEST_LIST, &answer) == 0 && answered(0, most, 0, 0, 0));
+    EXPECT(puffsatchel_list(bytes(text, most), most, words, PUFFSATCHEL_LARGEST_LIST, &answer) == 0 && answered(0, most, 0, 0, 0));
     for (i = 0; i < most; i++) right = right && words[3 * i] == 31 && words[3 * i + 1] == i && words[3 * i + 2] == i + 1;
     EXPECT(right);
     forget();
@@ -297,9 +314,6 @@ static void largest(void) {
     EXPECT(puffsatchel_load(records, PUFFSATCHEL_LARGEST_STORED, words, PUFFSATCHEL_LARGEST_LIST, &answer) == 0 && answered(0, PUFFSATCHEL_LARGEST_LIST, 0, 0, 0));
     for (i = 0; i < most; i++) right = right && words[3 * i] == 31 && words[3 * i + 1] == i && words[3 * i + 2] == i + 1;
     EXPECT(right);
-    free(text);
-    free(words);
-    free(records);
 }
 
 /* A template in a template 64 deep is read, a 65th refused. */
@@ -313,6 +327,7 @@ static void deepest(void) {
 }
 
 int main(void) {
+    last = edge(PUFFSATCHEL_LARGEST_SOURCE + 1) + PUFFSATCHEL_LARGEST_SOURCE + 1;
     EXPECT(puffsatchel_version() == PUFFSATCHEL_VERSION);
     tests_a_source();
     reads_a_token();
