@@ -10,15 +10,21 @@ fill('body/item_bytes', {
 fill('body/wrong_count', {
     'returns': 'simp (sym (@is-single .ensures) ∙ @if1 .taken)'})
 fill('body/put', {
-    'Inv-loop': 'Putting out₀ out bytes n len i', 'μ-loop': 'len - i',
-    'loop-holds': 'putting-first _ _ _ _',
-    'element-copy-out-out': 'omega (arith, @Start .pre .0)',
-    'add-out': 'omega (arith, @Start .pre .2, @loop .inv .size)',
-    'slice-write-out': 'omega (arith, @Start .pre .2, @loop .inv .size)',
-    'loop-again': 'putting-next _ _ _ _ _ _ (@loop .inv) (@loop-test .taken) $four$',
-    'same-length': '@loop .inv .size',
-    'returns': 'putting-last _ _ _ _ _ _ (@loop .inv) (@loop-test .left) $four$'},
-    macros={'four': '(@Start .pre .1)'})
+    **{'element-copy-out-out' + k: 'omega (arith, $four$)' for k in ('', '-2', '-3', '-4')},
+    **{'add-out' + k: 'omega (arith, @Start .pre .2)' for k in ('', '-2', '-3')},
+    'slice-write-out': 'omega (arith, @Start .pre .2)',
+    **{'slice-write-out' + k: 'simp length-set (omega (arith, @Start .pre .2))' for k in ('-2', '-3', '-4')},
+    'same-length': '$one$ .size', 'same-length-2': '$two$ .size', 'same-length-3': '$three$ .size', 'same-length-4': '$all$ .size',
+    'returns': 'putting-last _ _ _ _ _ 0 (putting-first _ _ _ _) (omega arith) $four$',
+    'returns-2': 'putting-last _ _ _ _ _ 1 $one$ (omega arith) $four$',
+    'returns-3': 'putting-last _ _ _ _ _ 2 $two$ (omega arith) $four$',
+    'returns-4': 'putting-last _ _ _ _ _ 3 $three$ (omega arith) $four$',
+    'returns-5': 'putting-last _ _ _ _ _ 4 $all$ (omega (arith, @Start .pre .0)) $four$'},
+    macros={'four': '(@Start .pre .1)',
+            'one': '(putting-one (@Start .args .out .now) (@Start .args .bytes .now) (@Start .args .n) (@Start .args .len) (omega arith) $four$)',
+            'two': '(putting-next _ _ _ _ _ 1 $one$ (omega arith) $four$)',
+            'three': '(putting-next _ _ _ _ _ 2 $two$ (omega arith) $four$)',
+            'all': '(putting-next _ _ _ _ _ 3 $three$ (omega arith) $four$)'})
 fill('body/measure', {
     'Inv-loop': 'Measuring form s at items count', 'μ-loop': 'length s - at',
     'loop-holds': 'measuring-first _ _',

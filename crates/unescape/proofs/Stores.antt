@@ -1,6 +1,6 @@
 -- Bytes stored one after the other. Assumes nothing.
 use Prim.Native.Nat.{ℕ, suc, _+_, _≤_, _<_}
-use mathlib.Core.Path.{_≡_, refl, sym, ap, ap₂, _∙_}
+use mathlib.Core.Path.{_≡_, refl, sym, ap, ap₂, _∙_, subst}
 use mathlib.Core.List.{List, [], _∷_, _++_}
 use native.Mathlib.Omega.{arith}
 use native.Mathlib.Numerals.{add-one}
@@ -55,3 +55,8 @@ module _ (out₀ out bytes : List ℕ) (n len i : ℕ) (h : Putting out₀ out b
         size = length-set out (n + i) (getD bytes i 0) ∙ h .size;
         few = omega arith;
       }
+
+-- the first byte is written at n itself
+pub putting-one : (out bytes : List ℕ) (n len : ℕ) → 0 < len → len ≤ length bytes → Putting out (set out n (getD bytes 0 0)) bytes n len 1
+putting-one out bytes n len l w =
+    subst (λ (k : ℕ). Putting out (set out k (getD bytes 0 0)) bytes n len 1) (omega arith) (putting-next out out bytes n len 0 (putting-first out bytes n len) l w)

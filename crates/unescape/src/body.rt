@@ -89,16 +89,27 @@ fn measure(s: &[u8], form: Form) -> Measured
     }
 }
 
-// The first `len` of four bytes, to the place n on.
+// The first `len` of four bytes, to the place n on. No loop: of one the compiler makes a call of C's memcpy.
 fn put(out: &mut [u8], n: usize, bytes: &[u8; 4], len: usize)
     requires { ⌜ (len ≤ 4) × (len ≤ length (now bytes)) × (n + len ≤ length (now out)) ⌝ }
     ensures { λ _. ⌜ now (out .exit) ≡ sets (now (out .entry)) n (take len (now (bytes .entry))) ⌝ }
 {
-    let mut i: usize = 0;
-    while i < len {
-        out[n + i] = bytes[i];
-        i = i + 1;
+    if len < 1 {
+        return;
     }
+    out[n] = bytes[0];
+    if len < 2 {
+        return;
+    }
+    out[n + 1] = bytes[1];
+    if len < 3 {
+        return;
+    }
+    out[n + 2] = bytes[2];
+    if len < 4 {
+        return;
+    }
+    out[n + 3] = bytes[3];
 }
 
 // The items up to the first fault, written from the first byte on.

@@ -1,55 +1,90 @@
-use Prim.Native.Nat.{_-_}
 use native.Mathlib.Omega.{arith}
-use borrow.Author.Needs.{needs}
-use Rattle.unescape.proofs.Stores.{Putting, putting-first, putting-last, putting-next}
+use lib.ListN.{length-set}
+use Rattle.unescape.proofs.Stores.{putting-first, putting-last, putting-next, putting-one}
 use Rattle.unescape.proofs.body.put.Statement.{statement}
 use Rattle.unescape.proofs.body.put.Tie as tie
 
-abbrev Inv-loop : tie.InvT-loop
-Inv-loop out₀ n bytes len i₀ out i = Putting out₀ out bytes n len i
+returns : tie.Need-returns
+returns c = putting-last _ _ _ _ _ 0 (putting-first _ _ _ _) (omega arith) (c .before .pre .1)
 
-abbrev μ-loop : tie.MeasureT-loop
-μ-loop out₀ n bytes len i₀ out i = len - i
+element-copy-out-out : tie.Need-element-copy-out-out
+element-copy-out-out c = omega (arith, (c .before .pre .1))
 
-loop-holds : tie.Need-loop-holds Inv-loop μ-loop
-loop-holds c = putting-first _ _ _ _
+slice-write-out : tie.Need-slice-write-out
+slice-write-out c = omega (arith, c .before .before .pre .2)
 
-element-copy-out-out : tie.Need-element-copy-out-out Inv-loop μ-loop
-element-copy-out-out c = omega (arith, c .before .before .pre .0)
+same-length : tie.Need-same-length
+same-length c = (putting-one (c .before .before .before .args .out .now) (c .before .before .before .args .bytes .now) (c .before .before .before .args .n) (c .before .before .before .args .len) (omega arith) (c .before .before .before .pre .1)) .size
 
-add-out : tie.Need-add-out Inv-loop μ-loop
-add-out c = omega (arith, c .before .before .before .pre .2, c .before .before .loop .inv .size)
+returns-2 : tie.Need-returns-2
+returns-2 c = putting-last _ _ _ _ _ 1 (putting-one (c .before .before .before .args .out .now) (c .before .before .before .args .bytes .now) (c .before .before .before .args .n) (c .before .before .before .args .len) (omega arith) (c .before .before .before .pre .1)) (omega arith) (c .before .before .before .pre .1)
 
-slice-write-out : tie.Need-slice-write-out Inv-loop μ-loop
-slice-write-out c = omega (arith, c .before .before .before .pre .2, c .before .before .loop .inv .size)
+element-copy-out-out-2 : tie.Need-element-copy-out-out-2
+element-copy-out-out-2 c = omega (arith, (c .before .before .before .pre .1))
 
-add-i : tie.Need-add-i Inv-loop μ-loop
-add-i c = search needs
+add-out : tie.Need-add-out
+add-out c = omega (arith, c .before .before .before .before .pre .2)
 
-loop-less : tie.Need-loop-less Inv-loop μ-loop
-loop-less c = search needs
+slice-write-out-2 : tie.Need-slice-write-out-2
+slice-write-out-2 c = simp length-set (omega (arith, c .before .before .before .before .pre .2))
 
-loop-again : tie.Need-loop-again Inv-loop μ-loop
-loop-again c = putting-next _ _ _ _ _ _ (c .before .before .loop .inv) (c .before .loop-test .taken) (c .before .before .before .pre .1)
+same-length-2 : tie.Need-same-length-2
+same-length-2 c = (putting-next _ _ _ _ _ 1 (putting-one (c .before .before .before .before .before .args .out .now) (c .before .before .before .before .before .args .bytes .now) (c .before .before .before .before .before .args .n) (c .before .before .before .before .before .args .len) (omega arith) (c .before .before .before .before .before .pre .1)) (omega arith) (c .before .before .before .before .before .pre .1)) .size
 
-same-length : tie.Need-same-length Inv-loop μ-loop
-same-length c = c .before .loop .inv .size
+returns-3 : tie.Need-returns-3
+returns-3 c = putting-last _ _ _ _ _ 2 (putting-next _ _ _ _ _ 1 (putting-one (c .before .before .before .before .before .args .out .now) (c .before .before .before .before .before .args .bytes .now) (c .before .before .before .before .before .args .n) (c .before .before .before .before .before .args .len) (omega arith) (c .before .before .before .before .before .pre .1)) (omega arith) (c .before .before .before .before .before .pre .1)) (omega arith) (c .before .before .before .before .before .pre .1)
 
-returns : tie.Need-returns Inv-loop μ-loop
-returns c = putting-last _ _ _ _ _ _ (c .before .loop .inv) (c .loop-test .left) (c .before .before .pre .1)
+element-copy-out-out-3 : tie.Need-element-copy-out-out-3
+element-copy-out-out-3 c = omega (arith, (c .before .before .before .before .before .pre .1))
+
+add-out-2 : tie.Need-add-out-2
+add-out-2 c = omega (arith, c .before .before .before .before .before .before .pre .2)
+
+slice-write-out-3 : tie.Need-slice-write-out-3
+slice-write-out-3 c = simp length-set (omega (arith, c .before .before .before .before .before .before .pre .2))
+
+same-length-3 : tie.Need-same-length-3
+same-length-3 c = (putting-next _ _ _ _ _ 2 (putting-next _ _ _ _ _ 1 (putting-one (c .before .before .before .before .before .before .before .args .out .now) (c .before .before .before .before .before .before .before .args .bytes .now) (c .before .before .before .before .before .before .before .args .n) (c .before .before .before .before .before .before .before .args .len) (omega arith) (c .before .before .before .before .before .before .before .pre .1)) (omega arith) (c .before .before .before .before .before .before .before .pre .1)) (omega arith) (c .before .before .before .before .before .before .before .pre .1)) .size
+
+returns-4 : tie.Need-returns-4
+returns-4 c = putting-last _ _ _ _ _ 3 (putting-next _ _ _ _ _ 2 (putting-next _ _ _ _ _ 1 (putting-one (c .before .before .before .before .before .before .before .args .out .now) (c .before .before .before .before .before .before .before .args .bytes .now) (c .before .before .before .before .before .before .before .args .n) (c .before .before .before .before .before .before .before .args .len) (omega arith) (c .before .before .before .before .before .before .before .pre .1)) (omega arith) (c .before .before .before .before .before .before .before .pre .1)) (omega arith) (c .before .before .before .before .before .before .before .pre .1)) (omega arith) (c .before .before .before .before .before .before .before .pre .1)
+
+element-copy-out-out-4 : tie.Need-element-copy-out-out-4
+element-copy-out-out-4 c = omega (arith, (c .before .before .before .before .before .before .before .pre .1))
+
+add-out-3 : tie.Need-add-out-3
+add-out-3 c = omega (arith, c .before .before .before .before .before .before .before .before .pre .2)
+
+slice-write-out-4 : tie.Need-slice-write-out-4
+slice-write-out-4 c = simp length-set (omega (arith, c .before .before .before .before .before .before .before .before .pre .2))
+
+same-length-4 : tie.Need-same-length-4
+same-length-4 c = (putting-next _ _ _ _ _ 3 (putting-next _ _ _ _ _ 2 (putting-next _ _ _ _ _ 1 (putting-one (c .before .before .before .before .before .before .before .before .args .out .now) (c .before .before .before .before .before .before .before .before .args .bytes .now) (c .before .before .before .before .before .before .before .before .args .n) (c .before .before .before .before .before .before .before .before .args .len) (omega arith) (c .before .before .before .before .before .before .before .before .pre .1)) (omega arith) (c .before .before .before .before .before .before .before .before .pre .1)) (omega arith) (c .before .before .before .before .before .before .before .before .pre .1)) (omega arith) (c .before .before .before .before .before .before .before .before .pre .1)) .size
+
+returns-5 : tie.Need-returns-5
+returns-5 c = putting-last _ _ _ _ _ 4 (putting-next _ _ _ _ _ 3 (putting-next _ _ _ _ _ 2 (putting-next _ _ _ _ _ 1 (putting-one (c .before .before .before .before .before .before .before .before .args .out .now) (c .before .before .before .before .before .before .before .before .args .bytes .now) (c .before .before .before .before .before .before .before .before .args .n) (c .before .before .before .before .before .before .before .before .args .len) (omega arith) (c .before .before .before .before .before .before .before .before .pre .1)) (omega arith) (c .before .before .before .before .before .before .before .before .pre .1)) (omega arith) (c .before .before .before .before .before .before .before .before .pre .1)) (omega arith) (c .before .before .before .before .before .before .before .before .pre .1)) (omega (arith, c .before .before .before .before .before .before .before .before .pre .0)) (c .before .before .before .before .before .before .before .before .pre .1)
 
 pub put-spec : {M : Type 1} → statement M
 put-spec =
     tie.close
     (tie.spec
-    Inv-loop
-    μ-loop
-    loop-holds
+    returns
     element-copy-out-out
-    add-out
     slice-write-out
-    add-i
-    loop-less
-    loop-again
     same-length
-    returns)
+    returns-2
+    element-copy-out-out-2
+    add-out
+    slice-write-out-2
+    same-length-2
+    returns-3
+    element-copy-out-out-3
+    add-out-2
+    slice-write-out-3
+    same-length-3
+    returns-4
+    element-copy-out-out-4
+    add-out-3
+    slice-write-out-4
+    same-length-4
+    returns-5)

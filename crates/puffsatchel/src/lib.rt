@@ -1,0 +1,100 @@
+// The calls for C and Rust (include/puffsatchel.h): the result is a refusal's number, 0 where there is none, and the rest of the answer goes to
+// five lent words. Each equals the definition of the call below it, on every input; none keeps or allocates memory.
+use answers::Named;
+use answers::tell;
+ghost use mathlib.Core.Path.{_≡_};
+ghost use Rattle.puffsatchel.specs.Calls.{listLeaves, listTells, loadLeaves, loadTells, nextTells, outlineLeaves, outlineTells, readTells, storeLeaves, storeTells, testTells, unescapeLeaves, unescapeTells, version};
+
+const VERSION: u32 = 1;
+
+// A number that names none of the five forms. No document uses it.
+const NO_SUCH_FORM: u32 = 5;
+
+#[no_mangle]
+pub extern "C" fn puffsatchel_version() -> u32
+    ensures { λ r. ⌜ r ≡ version ⌝ }
+{
+    VERSION
+}
+
+#[no_mangle]
+pub extern "C" fn puffsatchel_test(source: &[u8], answer: &mut [usize; 5]) -> u32
+    ensures { λ r. ⌜ (r ≡ testTells (now (source .entry)) .number) × (now (answer .exit) ≡ testTells (now (source .entry)) .words) ⌝ }
+{
+    tell(answers::of_tested(sound::test_source(source)), answer)
+}
+
+#[no_mangle]
+pub extern "C" fn puffsatchel_read(source: &[u8], at: usize, answer: &mut [usize; 5]) -> u32
+    ensures { λ r. ⌜ (r ≡ readTells (now (source .entry)) at .number) × (now (answer .exit) ≡ readTells (now (source .entry)) at .words) ⌝ }
+{
+    tell(answers::of_read(lexer::read(source, at)), answer)
+}
+
+// For a source that puffsatchel_test has accepted; total on every other.
+#[no_mangle]
+pub extern "C" fn puffsatchel_next(source: &[u8], at: usize, answer: &mut [usize; 5]) -> u32
+    ensures { λ r. ⌜ (r ≡ nextTells (now (source .entry)) at .number) × (now (answer .exit) ≡ nextTells (now (source .entry)) at .words) ⌝ }
+{
+    tell(answers::of_read(lexer::next(source, at)), answer)
+}
+
+#[no_mangle]
+pub extern "C" fn puffsatchel_list(source: &[u8], store: &mut [u32], answer: &mut [usize; 5]) -> u32
+    ensures { λ r. ⌜ (r ≡ listTells (now (source .entry)) (now (store .entry)) .number)
+        × (now (store .exit) ≡ listLeaves (now (source .entry)) (now (store .entry)))
+        × (now (answer .exit) ≡ listTells (now (source .entry)) (now (store .entry)) .words) ⌝ }
+{
+    let listed = listing::list(source, store);
+    tell(answers::of_listed(listed), answer)
+}
+
+#[no_mangle]
+pub extern "C" fn puffsatchel_outline(source: &[u8], out: &mut [u8], answer: &mut [usize; 5]) -> u32
+    ensures { λ r. ⌜ (r ≡ outlineTells (now (source .entry)) (now (out .entry)) .number)
+        × (now (out .exit) ≡ outlineLeaves (now (source .entry)) (now (out .entry)))
+        × (now (answer .exit) ≡ outlineTells (now (source .entry)) (now (out .entry)) .words) ⌝ }
+{
+    let outlined = outline::outline(source, out);
+    tell(answers::of_outlined(outlined), answer)
+}
+
+#[no_mangle]
+pub extern "C" fn puffsatchel_unescape(
+    escaped: &[u8],
+    form: u32,
+    out: &mut [u8],
+    answer: &mut [usize; 5],
+) -> u32
+    ensures { λ r. ⌜ (r ≡ unescapeTells form (now (escaped .entry)) (now (out .entry)) .number)
+        × (now (out .exit) ≡ unescapeLeaves form (now (escaped .entry)) (now (out .entry)))
+        × (now (answer .exit) ≡ unescapeTells form (now (escaped .entry)) (now (out .entry)) .words) ⌝ }
+{
+    let Named::OneForm { form: known } = answers::form_of(form) else {
+        return tell(answers::point(NO_SUCH_FORM, 0), answer);
+    };
+    let unescaped = unescape::unescape(escaped, known, out);
+    tell(answers::of_unescaped(unescaped), answer)
+}
+
+// A token list, three words a token, as stored records.
+#[no_mangle]
+pub extern "C" fn puffsatchel_store(list: &[u32], out: &mut [u8], answer: &mut [usize; 5]) -> u32
+    ensures { λ r. ⌜ (r ≡ storeTells (now (list .entry)) (now (out .entry)) .number)
+        × (now (out .exit) ≡ storeLeaves (now (list .entry)) (now (out .entry)))
+        × (now (answer .exit) ≡ storeTells (now (list .entry)) (now (out .entry)) .words) ⌝ }
+{
+    let written = storage::write(list, out);
+    tell(answers::of_stored(written), answer)
+}
+
+// Stored records as a token list.
+#[no_mangle]
+pub extern "C" fn puffsatchel_load(bytes: &[u8], out: &mut [u32], answer: &mut [usize; 5]) -> u32
+    ensures { λ r. ⌜ (r ≡ loadTells (now (bytes .entry)) (now (out .entry)) .number)
+        × (now (out .exit) ≡ loadLeaves (now (bytes .entry)) (now (out .entry)))
+        × (now (answer .exit) ≡ loadTells (now (bytes .entry)) (now (out .entry)) .words) ⌝ }
+{
+    let loaded = storage::read(bytes, out);
+    tell(answers::of_stored(loaded), answer)
+}
