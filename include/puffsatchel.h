@@ -29,12 +29,15 @@ enum {
     PUFFSATCHEL_LARGEST_LIST = 3 * PUFFSATCHEL_LARGEST_SOURCE,          /* words: a token is a byte or more */
     PUFFSATCHEL_BYTES_PER_RECORD = 11,                                  /* of a stored list */
     PUFFSATCHEL_LARGEST_STORED = 11 * PUFFSATCHEL_LARGEST_SOURCE,       /* bytes */
-    PUFFSATCHEL_DEEPEST_TEMPLATE = 64
+    PUFFSATCHEL_DEEPEST_TEMPLATE = 64,
+    PUFFSATCHEL_MOST_HELD = 8,                                          /* tokens that the lookahead holds */
+    PUFFSATCHEL_MOST_WAITING = 256,                                     /* tokens of white space that wait */
+    PUFFSATCHEL_LARGEST_BUMP = 3 * (256 + 1)                            /* words: one token with all that waits before it */
 };
 
 /* What a call answers beside its result. Places are bytes from the start of the source; a span is from start to before end. */
 typedef struct puffsatchel_answer {
-    size_t value;   /* a token's kind */
+    size_t value;   /* a token's kind; in the lookahead also 1 for yes, 0 for no */
     size_t count;   /* how much was written; each call says of what */
     size_t start;   /* the token's span, or the refusal's */
     size_t end;
@@ -145,12 +148,12 @@ enum {
     PUFFSATCHEL_OUTPUT_SHORT = 26, /* the output does not fit */
     PUFFSATCHEL_NOT_ONE_ITEM = 27, /* a char or a byte of none or of more than one */
 
-    /* The lookahead. */
-    PUFFSATCHEL_TOO_FAR = 30,
-    PUFFSATCHEL_WAITING_FULL = 31,
-    PUFFSATCHEL_PAST_HELD = 32,
-    PUFFSATCHEL_STORE_SHORT = 33,
-    PUFFSATCHEL_FAULTY = 34,
+    /* The lookahead; span 0..0. */
+    PUFFSATCHEL_TOO_FAR = 30,      /* n above 7, array above 8 */
+    PUFFSATCHEL_WAITING_FULL = 31, /* a 257th token of white space would wait */
+    PUFFSATCHEL_PAST_HELD = 32,    /* more than are held */
+    PUFFSATCHEL_STORE_SHORT = 33,  /* no room for what is emitted */
+    PUFFSATCHEL_FAULTY = 34,       /* a list that is faulty by 40, 42 or 43, or a state that is not this list's */
 
     /* A stored list; start and end name the record, from 0 on. */
     PUFFSATCHEL_BAD_LENGTH = 40, /* no whole number of records */
@@ -201,6 +204,66 @@ uint32_t puffsatchel_store(const uint32_t *list, size_t list_len, uint8_t *out, 
 /* Reads records back into a token list; count is of written words.
  * Refuses with 40, then by record with 41, 42 and 43, then with 3, and then writes nothing. Later words are unchanged. */
 uint32_t puffsatchel_load(const uint8_t *bytes, size_t bytes_len, uint32_t *out, size_t out_len, puffsatchel_answer *answer);
+
+/* The lookahead over a token list: the state, which the caller keeps and lends to each call together with the list, always the same one.
+ * A fresh state is zero but for keep:
+ *     puffsatchel_ahead state = PUFFSATCHEL_AHEAD_KEEP;      white space is emitted with the token behind it
+ *     puffsatchel_ahead state = PUFFSATCHEL_AHEAD_DROP;      white space is dropped
+ * White space is the kinds 1 to 4. Whatever bytes a state holds, each call answers, and refuses with 34 what is not this list's. */
+typedef struct puffsatchel_ahead {
+    uint32_t next;          /* the first token of the list that was not read */
+    uint32_t keep;          /* 0: white space is dropped */
+    size_t held_at;         /* where the rings begin, and how many they have */
+    size_t held_len;
+    size_t wait_at;
+    size_t wait_len;
+    uint32_t held[8];       /* tokens by their number in the list, in a ring */
+    uint32_t counts[8];     /* how many of those that wait stand before each */
+    uint32_t waiting[256];  /* white space by its number in the list, in a ring */
+} puffsatchel_ahead;
+
+#define PUFFSATCHEL_AHEAD_KEEP {0, 1, 0, 0, 0, 0, {0}, {0}, {0}}
+#define PUFFSATCHEL_AHEAD_DROP {0, 0, 0, 0, 0, 0, {0}, {0}, {0}}
+
+/* Does not compile where the struct is laid out otherwise than in the archive. */
+typedef char puffsatchel_ahead_has_1128_bytes[sizeof(puffsatchel_ahead) == 1128 ? 1 : -1];
+
+/* fill reads until n + 1 tokens are held or the list ends. nth gives the kind of the n-th token (peek: n is 0), nth_token its span too, glued its
+ * kind only where no white space stands before it, else 67; is_eof gives 1 at the end, else 0. Past the end every token is 67, a point there.
+ * All in value, start and end. Refuse with 34, 30, 31, and then leave the state as it was. */
+uint32_t puffsatchel_fill(puffsatchel_ahead *state, size_t n, const uint32_t *list, size_t list_len, puffsatchel_answer *answer);
+uint32_t puffsatchel_peek(puffsatchel_ahead *state, const uint32_t *list, size_t list_len, puffsatchel_answer *answer);
+uint32_t puffsatchel_nth(puffsatchel_ahead *state, size_t n, const uint32_t *list, size_t list_len, puffsatchel_answer *answer);
+uint32_t puffsatchel_nth_token(puffsatchel_ahead *state, size_t n, const uint32_t *list, size_t list_len, puffsatchel_answer *answer);
+uint32_t puffsatchel_glued(puffsatchel_ahead *state, size_t n, const uint32_t *list, size_t list_len, puffsatchel_answer *answer);
+uint32_t puffsatchel_is_eof(puffsatchel_ahead *state, const uint32_t *list, size_t list_len, puffsatchel_answer *answer);
+
+/* These write what they emit, three words a token, from the first word of out on; count is of tokens. bump emits the next token with the white
+ * space before it, and gives its kind and span; at the end it emits an end-of-file token each time. bump_if and bump_while emit only tokens of a
+ * kind: value is 1 if any was. advance emits n that are held. flush_ws emits the white space before the next token, and gives a point at that.
+ * array writes the next n tokens and emits none of them.
+ * Refuse with 34, 30, 31, 32, 33, and then leave state and out as they were. Later words are unchanged. */
+uint32_t puffsatchel_flush_ws(puffsatchel_ahead *state, const uint32_t *list, size_t list_len, uint32_t *out, size_t out_len, puffsatchel_answer *answer);
+uint32_t puffsatchel_bump(puffsatchel_ahead *state, const uint32_t *list, size_t list_len, uint32_t *out, size_t out_len, puffsatchel_answer *answer);
+uint32_t puffsatchel_bump_if(puffsatchel_ahead *state, uint32_t kind, const uint32_t *list, size_t list_len, uint32_t *out, size_t out_len, puffsatchel_answer *answer);
+uint32_t puffsatchel_bump_while(puffsatchel_ahead *state, uint32_t kind, const uint32_t *list, size_t list_len, uint32_t *out, size_t out_len, puffsatchel_answer *answer);
+uint32_t puffsatchel_advance(puffsatchel_ahead *state, size_t n, const uint32_t *list, size_t list_len, uint32_t *out, size_t out_len, puffsatchel_answer *answer);
+uint32_t puffsatchel_array(puffsatchel_ahead *state, size_t n, const uint32_t *list, size_t list_len, uint32_t *out, size_t out_len, puffsatchel_answer *answer);
+
+/* The same for a list that puffsatchel_list wrote, or that puffsatchel_store or puffsatchel_load has accepted: the list is not tested again, which
+ * takes as long as it is. On any other list they answer too, and read no word outside it; but its faults are not refused with 34. */
+uint32_t puffsatchel_tested_fill(puffsatchel_ahead *state, size_t n, const uint32_t *list, size_t list_len, puffsatchel_answer *answer);
+uint32_t puffsatchel_tested_peek(puffsatchel_ahead *state, const uint32_t *list, size_t list_len, puffsatchel_answer *answer);
+uint32_t puffsatchel_tested_nth(puffsatchel_ahead *state, size_t n, const uint32_t *list, size_t list_len, puffsatchel_answer *answer);
+uint32_t puffsatchel_tested_nth_token(puffsatchel_ahead *state, size_t n, const uint32_t *list, size_t list_len, puffsatchel_answer *answer);
+uint32_t puffsatchel_tested_glued(puffsatchel_ahead *state, size_t n, const uint32_t *list, size_t list_len, puffsatchel_answer *answer);
+uint32_t puffsatchel_tested_is_eof(puffsatchel_ahead *state, const uint32_t *list, size_t list_len, puffsatchel_answer *answer);
+uint32_t puffsatchel_tested_flush_ws(puffsatchel_ahead *state, const uint32_t *list, size_t list_len, uint32_t *out, size_t out_len, puffsatchel_answer *answer);
+uint32_t puffsatchel_tested_bump(puffsatchel_ahead *state, const uint32_t *list, size_t list_len, uint32_t *out, size_t out_len, puffsatchel_answer *answer);
+uint32_t puffsatchel_tested_bump_if(puffsatchel_ahead *state, uint32_t kind, const uint32_t *list, size_t list_len, uint32_t *out, size_t out_len, puffsatchel_answer *answer);
+uint32_t puffsatchel_tested_bump_while(puffsatchel_ahead *state, uint32_t kind, const uint32_t *list, size_t list_len, uint32_t *out, size_t out_len, puffsatchel_answer *answer);
+uint32_t puffsatchel_tested_advance(puffsatchel_ahead *state, size_t n, const uint32_t *list, size_t list_len, uint32_t *out, size_t out_len, puffsatchel_answer *answer);
+uint32_t puffsatchel_tested_array(puffsatchel_ahead *state, size_t n, const uint32_t *list, size_t list_len, uint32_t *out, size_t out_len, puffsatchel_answer *answer);
 
 #ifdef __cplusplus
 }

@@ -1,0 +1,2 @@
+pub mod pass
+pub mod Calls

@@ -1,0 +1,6 @@
+-- The walks of the calls.
+
+pub mod OfList
+pub mod OfNList
+pub mod OfListOut
+pub mod OfNListOut
