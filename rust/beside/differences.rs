@@ -15,15 +15,27 @@ const TABLE: [(&str, Tokens, Tokens, Option<(u32, usize, usize)>); 7] = [
     ("a\u{301}", &[[6, 0, 3]], &[[6, 0, 1]], Some((18, 1, 3))),
 ];
 
+const DEEPEST: usize = 128;
+
 /// Answers the number of inputs.
 pub(crate) fn compare() -> Result<u64, Difference> {
     for (source, rust, ours, refused) in TABLE {
         one(source, rust, ours, refused)?;
     }
 
-    one(&nested(64), &[[16, 0, 191]], &[[16, 0, 191]], None)?;
-    one(&nested(65), &[[16, 0, 194]], &[], Some((19, 0, 129)))?;
-    Ok(TABLE.len() as u64 + 2)
+    for depth in 1..=DEEPEST {
+        let source = nested(depth);
+        let whole = [[16, 0, source.len() as u32]];
+
+        if depth <= 64 {
+            one(&source, &whole, &whole, None)?;
+        } else {
+            // Up to the 65th backtick stand 64 others, and a backslash behind each of them.
+            one(&source, &whole, &[], Some((19, 0, 129)))?;
+        }
+    }
+
+    Ok((TABLE.len() + DEEPEST) as u64)
 }
 
 /// Templates of the given depth, each opened after a backslash in the one before.

@@ -97,7 +97,7 @@ fn plan(arguments: &[String]) -> Option<Plan> {
     Some(if quick {
         Plan { source_length: 3, body_length: 2, scalars: false, sources: 10_000, bodies: 10_000, rules: 2_000, copies: 3, largest: 2, seeds }
     } else {
-        Plan { source_length: 5, body_length: 4, scalars: true, sources: 1_000_000, bodies: 1_000_000, rules: 250_000, copies: 3, largest: 50, seeds }
+        Plan { source_length: 5, body_length: 4, scalars: true, sources: 2_000_000, bodies: 2_000_000, rules: 500_000, copies: 3, largest: 50, seeds }
     })
 }
 

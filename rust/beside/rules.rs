@@ -28,11 +28,14 @@ const BYTE_TEXT: [&str; 8] = ["", "N1", "\\x02", "\\xff", "\\\"", "\\\\", "//", 
 
 const CHARS: [&str; 10] = ["'I'", "'\\n'", "'\\''", "'\\\\'", "'\"'", "'é'", "'水'", "'\\u{41}'", "'`'", "' '"];
 
-const BYTES: [&str; 6] = ["b'I'", "b'\\n'", "b'\\\\'", "b'\"'", "b'\\x1b'", "b'`'"];
+const BYTES: [&str; 5] = ["b'I'", "b'\\n'", "b'\"'", "b'\\x1b'", "b'`'"];
 
 const REMARKS: [&str; 12] = [
     "", " metres over the sill", " switched off", "*", "/", " TODO: été", " 水位", " \"", " `", " '", " don't", " **",
 ];
+
+/// What makes reading run on over what was meant to close it, or stop.
+const WILD: [&str; 10] = ["b'\\\\'", "/**/", "/*a*/", "/***/", "`\\{ }`", "`\\\"`", "}", "\\", "''", "/*/"];
 
 const UNARY: [&str; 4] = ["!", "-", "*", "&"];
 
@@ -49,7 +52,8 @@ pub(crate) fn files(sink: &mut Sink, count: u64, copies: u64, seed: u64) -> io::
 
     for _ in 0..count {
         let items = chance.below(6);
-        let text = file(&mut chance, items);
+        let sort = Sort::any(&mut chance);
+        let text = file(&mut chance, items, sort);
         sink.frame(b'L', text.as_bytes())?;
 
         for _ in 0..copies {
@@ -73,10 +77,11 @@ pub(crate) fn largest(sink: &mut Sink, count: u64, seed: u64) -> io::Result<()> 
     let mut chance = Chance::new(seed);
 
     for _ in 0..count {
+        let sort = Sort::any(&mut chance);
         let mut text = String::new();
 
         while text.len() < 65_537 {
-            text.push_str(&file(&mut chance, 20));
+            text.push_str(&file(&mut chance, 20, sort));
         }
 
         for length in 65_535..=65_537 {
@@ -90,14 +95,27 @@ pub(crate) fn largest(sink: &mut Sink, count: u64, seed: u64) -> io::Result<()> 
     Ok(())
 }
 
-/// Most files are inside the domain of equality.
-fn file(chance: &mut Chance, items: usize) -> String {
-    let mut file = File {
-        numbers: chance.one_in(8),
-        wide: chance.one_in(32),
-        text: String::new(),
-        chance,
-    };
+/// What may stand in a file. Numbers and wide letters are outside the domain of equality, and a wild file is seldom read
+/// as it was meant, so most files have none of the three.
+#[derive(Clone, Copy)]
+struct Sort {
+    numbers: bool,
+    wide: bool,
+    wild: bool,
+}
+
+impl Sort {
+    fn any(chance: &mut Chance) -> Self {
+        Self {
+            numbers: chance.one_in(16),
+            wide: chance.one_in(16),
+            wild: chance.one_in(4),
+        }
+    }
+}
+
+fn file(chance: &mut Chance, items: usize, sort: Sort) -> String {
+    let mut file = File { chance, sort, text: String::new() };
 
     if file.chance.one_in(16) {
         file.text.push_str("#!/usr/bin/env rune\n");
@@ -112,9 +130,8 @@ fn file(chance: &mut Chance, items: usize) -> String {
 
 struct File<'a> {
     chance: &'a mut Chance,
+    sort: Sort,
     text: String,
-    numbers: bool,
-    wide: bool,
 }
 
 impl File<'_> {
@@ -195,7 +212,7 @@ impl File<'_> {
     fn expression(&mut self, depth: usize) {
         match self.chance.below(if depth > 0 { 16 } else { 9 }) {
             0 | 1 => self.path(),
-            2 if self.numbers => self.put_one(&NUMBERS),
+            2 if self.sort.numbers => self.put_one(&NUMBERS),
             2 | 3 => self.name(),
             4 => self.quoted("\"", &TEXT),
             5 => self.quoted("b\"", &BYTE_TEXT),
@@ -210,34 +227,38 @@ impl File<'_> {
             }
             11 => {
                 self.put_one(&UNARY);
+                self.text.push(' ');
                 self.expression(depth - 1);
             }
             12 => {
-                self.put_one(&["[", "#{ a:", "(", "@["]);
+                let (open, close) = self.chance.pick(&[("[", "]"), ("#{ a:", "}"), ("(", ")"), ("@[", "]?")]);
+                self.put(open);
                 self.expression(depth - 1);
-                self.put(",");
-                self.put_one(&["]", "}", ")", "]?"]);
+                self.put(close);
             }
             _ => {
                 self.expression(depth - 1);
+                self.text.push(' ');
                 self.put_one(&BINARY);
+                self.text.push(' ');
                 self.expression(depth - 1);
             }
         }
     }
 
-    /// Its inner expressions stand in braces, so a backtick in them closes nothing; a backslash reads a whole token.
+    /// An inner expression stands in braces, where a backtick closes nothing, but a backslash reads a whole token: with
+    /// strings in it the template may run on.
     fn template(&mut self, depth: usize) {
         self.text.push('`');
 
         for _ in 0..self.chance.below(5) {
             match self.chance.below(6) {
-                0 | 1 => self.text.push_str(self.chance.pick(&["at ", ": ", " m", "{}", "été"])),
-                2 => self.text.push_str(self.chance.pick(&["\\n", "\\$", "\\`a`", "\\\\", "\\{ }"])),
-                part => {
+                0 | 1 => self.text.push_str(self.chance.pick(&["at ", ": ", " m", "{}", "été", "\""])),
+                2 => self.text.push_str(self.chance.pick(&["\\n ", "\\$", "\\`a`", "\\\\ "])),
+                _ => {
                     self.text.push_str("${");
 
-                    if part == 3 && depth > 0 {
+                    if self.sort.wild && depth > 0 {
                         self.expression(depth - 1);
                     } else {
                         self.name();
@@ -278,7 +299,7 @@ impl File<'_> {
     }
 
     fn name(&mut self) {
-        let names: &[&str] = if self.wide && self.chance.one_in(8) { &WIDE_NAMES } else { &NAMES };
+        let names: &[&str] = if self.sort.wide && self.chance.one_in(8) { &WIDE_NAMES } else { &NAMES };
         self.text.push_str(self.chance.pick(names));
     }
 
@@ -291,6 +312,10 @@ impl File<'_> {
     fn put(&mut self, word: &str) {
         self.text.push_str(word);
 
+        if self.sort.wild && self.chance.one_in(24) {
+            self.text.push_str(self.chance.pick(&WILD));
+        }
+
         match self.chance.below(32) {
             0..=15 => self.text.push(' '),
             16..=18 => self.text.push_str("\n    "),
@@ -301,7 +326,7 @@ impl File<'_> {
     }
 
     fn comment(&mut self) {
-        let forms = [("//", "\n"), ("// ", "\n"), ("/* ", " */"), ("/**", "*/"), ("/*", "*/")];
+        let forms = [("//", "\n"), ("// ", "\n"), ("/* ", " */"), ("/*--", "*/")];
         let (open, close) = self.chance.pick(&forms);
         self.text.push_str(open);
         self.text.push_str(self.chance.pick(&REMARKS));
