@@ -69,7 +69,7 @@ impl Listed {
     pub(crate) fn from_rust(source: &str, into: &mut Listed) {
         let Listed { words, refused } = into;
         words.clear();
-        *refused = oracle::list(source, |token| words.extend(token)).err().map(Refused::from);
+        *refused = oracle::list_words(source, |token| words.extend(token)).err().map(Refused::from);
     }
 
     /// The tokens a line each, or the last of them.

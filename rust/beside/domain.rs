@@ -14,11 +14,11 @@ pub(crate) enum Outside {
 pub(crate) const REASONS: [(Outside, &str); 4] = [
     (Outside::Number, "a number token"),
     (Outside::NumberInTemplate, "a digit behind a backslash in a template"),
-    (Outside::Wide, "a scalar above U+024F outside strings, chars, bytes, comments and plain templates"),
+    (Outside::Wide, "a scalar above U+024F where document 01 allows none"),
     (Outside::Deep, "a 65th template within templates"),
 ];
 
-const LAST_NARROW: char = '\u{24f}';
+pub(crate) const LAST_NARROW: char = '\u{24f}';
 
 /// A template of this many backslashes right before a backtick may be 65 deep.
 const OPENINGS: usize = 64;

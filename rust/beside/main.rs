@@ -8,6 +8,7 @@ mod bodies;
 mod differences;
 mod domain;
 mod lent;
+mod own;
 mod rules;
 mod sink;
 mod sources;
@@ -154,7 +155,7 @@ fn said(tally: &Tally) -> String {
 
     for (count, (_, reason)) in tally.outside.iter().zip(REASONS) {
         if *count > 0 {
-            said.push_str(&format!(", {count} outside the domain by {reason}"));
+            said.push_str(&format!(", {count} of them outside the domain by {reason}"));
         }
     }
 

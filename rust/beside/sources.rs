@@ -3,6 +3,7 @@
 use crate::answers::{Difference, Listed, Refused};
 use crate::domain::{self, Outside};
 use crate::lent::Lent;
+use crate::own;
 
 const NO_ROOM: u32 = 3;
 const INSIDE: u8 = b'x';
@@ -54,7 +55,10 @@ impl Sources {
 
         match left {
             None => self.same_as_rust()?,
-            Some((first, _)) => self.same_before(first)?,
+            Some((first, _)) => {
+                self.same_before(first)?;
+                own::judge(text, &self.ours)?;
+            }
         }
 
         self.covers(source)?;

@@ -23,7 +23,7 @@ use frame::{next_frame, Malformed};
 use grammar::script;
 
 pub use ast::body::{unescape, Form};
-pub use listing::{list_words as list, text};
+pub use listing::{list_words, text};
 pub use numbers::Refusal;
 
 #[derive(Debug, Clone, Copy, PartialEq, Eq)]
