@@ -95,11 +95,31 @@ fn plan(arguments: &[String]) -> Option<Plan> {
         *seed = argument.parse().ok()?;
     }
 
-    Some(if quick {
-        Plan { source_length: 3, body_length: 2, scalars: false, sources: 10_000, bodies: 10_000, rules: 2_000, copies: 3, largest: 2, seeds }
-    } else {
-        Plan { source_length: 5, body_length: 4, scalars: true, sources: 2_000_000, bodies: 2_000_000, rules: 500_000, copies: 3, largest: 50, seeds }
-    })
+    let whole = Plan {
+        source_length: 5,
+        body_length: 4,
+        scalars: true,
+        sources: 2_000_000,
+        bodies: 2_000_000,
+        rules: 500_000,
+        copies: 3,
+        largest: 50,
+        seeds,
+    };
+
+    let small = Plan {
+        source_length: 3,
+        body_length: 2,
+        scalars: false,
+        sources: 10_000,
+        bodies: 10_000,
+        rules: 2_000,
+        copies: 3,
+        largest: 2,
+        seeds,
+    };
+
+    Some(if quick { small } else { whole })
 }
 
 fn run(plan: &Plan) -> io::Result<()> {
@@ -125,10 +145,10 @@ fn run(plan: &Plan) -> io::Result<()> {
         examples::escape(sink)
     })?;
     stream("one unit repeated to 65,535, 65,536 and 65,537 bytes".to_owned(), &mut examples::long)?;
-    stream(format!("{} rule files cut at 65,535, 65,536 and 65,537 bytes, seed {of_rules}", plan.largest), &mut |sink| {
+    stream(format!("rule files cut at 65,535, 65,536 and 65,537 bytes, seed {of_rules}"), &mut |sink| {
         rules::largest(sink, plan.largest, of_rules)
     })?;
-    stream(format!("{} rule files by a grammar, {} damaged copies of each, seed {of_rules}", plan.rules, plan.copies), &mut |sink| {
+    stream(format!("rule files, {} damaged copies of each, seed {of_rules}", plan.copies), &mut |sink| {
         rules::files(sink, plan.rules, plan.copies, of_rules)
     })?;
     stream(format!("random sources, seed {of_sources}"), &mut |sink| source::list(sink, plan.sources, of_sources))?;

@@ -4,7 +4,8 @@
 
 use core::fmt::{self, Write};
 
-use puffsatchel::{list, load, outline, read, store, test, unescape, Form, Kind, Lexer, Reason, Refusal, Stopped, Token, Tokens};
+use puffsatchel::{list, load, outline, read, store, test, unescape};
+use puffsatchel::{Form, Kind, Lexer, Reason, Refusal, Stopped, Token, Tokens};
 
 #[no_mangle]
 pub fn lexer_new(source: &[u8]) -> Lexer<'_> {

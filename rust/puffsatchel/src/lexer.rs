@@ -87,14 +87,15 @@ impl Iterator for Lexer<'_> {
             State::Over => return None,
         };
 
-        self.state = match item {
-            Ok(token) if token.kind != Kind::Eof => State::At(token.span.end),
-            _ => State::Over,
-        };
+        self.state = State::Over;
 
         match item {
-            Ok(token) if token.kind == Kind::Eof => None,
-            item => Some(item),
+            Ok(Token { kind: Kind::Eof, .. }) => None,
+            Ok(token) => {
+                self.state = State::At(token.span.end);
+                Some(Ok(token))
+            }
+            Err(refusal) => Some(Err(refusal)),
         }
     }
 }

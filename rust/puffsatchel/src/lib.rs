@@ -18,9 +18,10 @@
 //! [`unescape`] reads the escapes of a literal's body, [`store`] and [`load`] carry a list to bytes and back.
 
 #![no_std]
-#![deny(missing_docs)]
+#![deny(missing_docs, unsafe_code)]
 #![forbid(unsafe_op_in_unsafe_fn)]
 
+#[allow(unsafe_code)]
 mod calls;
 mod kind;
 mod lexer;
