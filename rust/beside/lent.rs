@@ -1,8 +1,8 @@
-//! Lent memory that tells afterwards what was written: filled with a pattern first, with a guard behind its end.
+//! Lent memory that tells afterwards what was written: filled with a pattern first, with a guard before and behind it.
 
 use crate::answers::Difference;
 
-/// Elements behind what is lent, which no call may know of.
+/// Elements before and behind what is lent, which no call may know of.
 const GUARD: usize = 8;
 
 pub(crate) trait Element: Copy + PartialEq {
@@ -35,25 +35,26 @@ impl<T: Element> Lent<T> {
     /// So many elements for a call to write to.
     pub(crate) fn fresh(&mut self, room: usize) -> &mut [T] {
         self.all.clear();
-        self.all.extend((0..room + GUARD).map(T::pattern));
-        &mut self.all[..room]
+        self.all.extend((0..GUARD + room + GUARD).map(T::pattern));
+        &mut self.all[GUARD..GUARD + room]
     }
 
     /// The first elements, as a call left them.
     pub(crate) fn front(&self, count: usize) -> &[T] {
-        &self.all[..count.min(self.all.len())]
+        &self.all[GUARD..GUARD + count]
     }
 
-    /// That nothing behind the first `written` was touched.
+    /// That nothing but the first `written` was touched.
     pub(crate) fn rest_is_untouched(&self, what: &str, written: usize) -> Result<(), Difference> {
-        let touched = |&(at, element): &(usize, &T)| *element != T::pattern(at);
+        let front = self.all[..GUARD].iter().enumerate();
+        let behind = self.all.iter().enumerate().skip(GUARD + written);
 
-        match self.all.iter().enumerate().skip(written).find(touched) {
+        match front.chain(behind).find(|&(at, element)| *element != T::pattern(at)) {
             None => Ok(()),
             Some((at, _)) => Err(Difference::new(
                 what,
-                &format!("  nothing written from element {written} on"),
-                &format!("  element {at} of {} is written", self.all.len() - GUARD),
+                &format!("  nothing written but the first {written} elements"),
+                &format!("  element {} of {} is written", at as isize - GUARD as isize, self.all.len() - 2 * GUARD),
             )),
         }
     }

@@ -6,6 +6,8 @@ use crate::lent::Lent;
 use crate::own;
 
 const NO_ROOM: u32 = 3;
+const NO_PLACE: u32 = 4;
+const END_OF_FILE: u32 = 67;
 const INSIDE: u8 = b'x';
 
 pub(crate) struct Sources {
@@ -64,6 +66,7 @@ impl Sources {
         self.covers(source)?;
         self.short_store(source)?;
         self.one_by_one(source)?;
+        self.one_at_a_place(source)?;
         self.outline(text, left.is_none())?;
         Ok(left.map(|(_, why)| why))
     }
@@ -135,10 +138,7 @@ impl Sources {
 
         for item in puffsatchel::Lexer::new(source) {
             match item {
-                Ok(token) => {
-                    let [start, end] = [token.span.start, token.span.end].map(|place| place as u32);
-                    again.words.extend([token.kind.number(), start, end]);
-                }
+                Ok(token) => again.words.extend(words(token)),
                 Err(refusal) => again.refused = Some(refusal.into()),
             }
         }
@@ -148,6 +148,22 @@ impl Sources {
         }
 
         Err(Difference::lists("the tokens one by one, beside the listing", &self.ours, &self.again))
+    }
+
+    /// One token by itself, any of the list or what comes behind it; and a place past the end, refused by 4.
+    fn one_at_a_place(&self, source: &[u8]) -> Result<(), Difference> {
+        let index = self.turn % (self.ours.count() + 1);
+        let end = self.ours.end();
+
+        let (place, wanted) = match (self.ours.tokens().nth(index), self.ours.refused) {
+            (Some(token), _) => (token[1] as usize, Ok(token)),
+            (None, Some(refused)) => (end, Err(refused)),
+            (None, None) => (end, Ok([END_OF_FILE, end as u32, end as u32])),
+        };
+
+        same_read(source, place, wanted)?;
+        let past = source.len() + 1 + self.turn % 2;
+        same_read(source, past, Err(Refused::new(NO_PLACE, past, past)))
     }
 
     /// A source refused by 1 or 2 is refused so by every call, and nothing is written.
@@ -230,6 +246,21 @@ impl Sources {
 
         Ok(())
     }
+}
+
+fn same_read(source: &[u8], place: usize, wanted: Result<[u32; 3], Refused>) -> Result<(), Difference> {
+    let ours = puffsatchel::read(source, place).map_err(Refused::from).map(words);
+
+    if ours == wanted {
+        return Ok(());
+    }
+
+    let what = format!("the token at {place}, beside the listing");
+    Err(Difference::new(&what, &format!("  {wanted:?}"), &format!("  {ours:?}")))
+}
+
+fn words(token: puffsatchel::Token) -> [u32; 3] {
+    [token.kind.number(), token.span.start as u32, token.span.end as u32]
 }
 
 fn same_refusal(what: &str, wanted: Option<Refused>, ours: Option<Refused>) -> Result<(), Difference> {
