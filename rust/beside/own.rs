@@ -10,12 +10,17 @@ pub(crate) fn judge(source: &str, ours: &Listed) -> Result<(), Difference> {
     for [kind, start, end] in ours.tokens() {
         let (start, end) = (start as usize, end as usize);
 
+        let Some(text) = source.get(start..end) else {
+            let what = "the span of a token, which is of whole scalars of the source";
+            return Err(Difference::new(what, "", &format!("  {kind} {start} {end}")));
+        };
+
         if kind == NUMBER && end != number_end(source.as_bytes(), start) {
             let wanted = format!("  8 {start} {}", number_end(source.as_bytes(), start));
             return Err(Difference::new("a number, by document 01's rule", &wanted, &format!("  8 {start} {end}")));
         }
 
-        if !may_be_wide(kind) && source[start..end].chars().any(|c| c > LAST_NARROW) {
+        if !may_be_wide(kind) && text.chars().any(|c| c > LAST_NARROW) {
             let what = "a token, which has no scalar above U+024F in it";
             return Err(Difference::new(what, "", &format!("  {kind} {start} {end}")));
         }
