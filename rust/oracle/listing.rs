@@ -9,7 +9,7 @@ use crate::SOURCE;
 const LONGEST: usize = 65_536;
 
 /// Document 01's refusals 1 and 2, in that order.
-pub(crate) fn text(payload: &[u8]) -> Result<&str, Refusal> {
+pub fn text(payload: &[u8]) -> Result<&str, Refusal> {
     if payload.len() > LONGEST {
         return Err(Refusal::new(1, 0, 0));
     }
@@ -37,10 +37,15 @@ pub(crate) fn list(source: &str, mut each: impl FnMut(Token)) -> Result<u32, Ref
     Ok(count)
 }
 
+/// The same, each token as its kind's number, its start and its end.
+pub fn list_words(source: &str, mut each: impl FnMut([u32; 3])) -> Result<u32, Refusal> {
+    list(source, |token| each([number_of(token.kind), token.span.start.0, token.span.end.0]))
+}
+
 pub(crate) fn answer(payload: &[u8], answer: &mut Answer) {
     let listed = text(payload).and_then(|source| {
-        list(source, |token| {
-            answer.numbers(&[number_of(token.kind), token.span.start.0, token.span.end.0]);
+        list_words(source, |words| {
+            answer.numbers(&words);
             answer.end_line();
         })
     });

@@ -1,37 +1,6 @@
-//! The oracle: the Rust's lexer, escapes and lookahead, unchanged, over framed inputs. README.md has the forms.
+//! Answers framed inputs by the oracle. README.md has the forms.
 
-// The three files hold and ask for more than plain mode uses.
-#![allow(dead_code)]
-
-mod alloc;
-mod answer;
-#[macro_use]
-mod ast;
-mod compile;
-mod frame;
-mod grammar;
-mod listing;
-mod macros;
-mod numbers;
-mod parse;
-mod shared;
-
-use std::io;
 use std::process::ExitCode;
-
-use answer::Answer;
-use ast::body::{self, Form};
-use frame::{next_frame, Malformed};
-use grammar::script;
-
-#[derive(Debug, Clone, Copy, PartialEq, Eq)]
-pub(crate) struct SourceId(u32);
-
-/// There is one source at a time.
-const SOURCE: SourceId = SourceId(0);
-
-/// The crate's lexer calls itself for each template opened after a backslash; 65,536 bytes may open 32,768.
-const STACK: usize = 256 << 20;
 
 fn main() -> ExitCode {
     let arguments: Vec<String> = std::env::args().skip(1).collect();
@@ -46,8 +15,8 @@ fn main() -> ExitCode {
     };
 
     let work = std::thread::Builder::new()
-        .stack_size(STACK)
-        .spawn(move || run(Answer::new(digest_every)))
+        .stack_size(oracle::STACK)
+        .spawn(move || oracle::run(digest_every))
         .expect("a thread");
 
     match work.join() {
@@ -58,51 +27,4 @@ fn main() -> ExitCode {
         }
         Err(_) => ExitCode::FAILURE,
     }
-}
-
-fn run(mut answer: Answer) -> Result<(), String> {
-    let mut input = io::BufReader::with_capacity(1 << 20, io::stdin());
-    let mut payload = Vec::new();
-    let mut out = Vec::new();
-
-    for number in 0u64.. {
-        let answered = match next_frame(&mut input, &mut payload) {
-            Ok(None) => break,
-            Ok(Some(mode)) => answer_frame(mode, &payload, &mut out, &mut answer),
-            Err(malformed) => Err(malformed),
-        };
-
-        if let Err(Malformed(what)) = answered {
-            answer.end().map_err(|error| error.to_string())?;
-            return Err(format!("frame {number}: {what}"));
-        }
-
-        answer.end_frame().map_err(|error| error.to_string())?;
-    }
-
-    answer.end().map_err(|error| error.to_string())
-}
-
-fn answer_frame(
-    mode: u8,
-    payload: &[u8],
-    out: &mut Vec<u8>,
-    answer: &mut Answer,
-) -> Result<(), Malformed> {
-    let form = match mode {
-        b'L' => {
-            listing::answer(payload, answer);
-            return Ok(());
-        }
-        b'a' => return script::answer(payload, answer),
-        b't' => Form::Text,
-        b'p' => Form::Template,
-        b'c' => Form::Char,
-        b's' => Form::ByteText,
-        b'b' => Form::Byte,
-        _ => return Err(Malformed("a mode that is not known")),
-    };
-
-    body::answer(form, payload, out, answer);
-    Ok(())
 }

@@ -5,10 +5,11 @@ use crate::compile::{Error, ErrorKind};
 use crate::SOURCE;
 
 /// A refusal by document 01: its number and span.
-pub(crate) struct Refusal {
-    pub(crate) number: u32,
-    pub(crate) start: u32,
-    pub(crate) end: u32,
+#[derive(Debug)]
+pub struct Refusal {
+    pub number: u32,
+    pub start: u32,
+    pub end: u32,
 }
 
 impl Refusal {

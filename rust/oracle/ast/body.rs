@@ -11,7 +11,7 @@ use crate::listing::text;
 use crate::numbers::Refusal;
 
 #[derive(Clone, Copy, PartialEq)]
-pub(crate) enum Form {
+pub enum Form {
     Text,
     Template,
     Char,
@@ -55,7 +55,8 @@ pub(crate) fn answer(form: Form, payload: &[u8], out: &mut Vec<u8>, answer: &mut
     }
 }
 
-fn unescape(form: Form, body: &str, out: &mut Vec<u8>) -> Result<(), Refusal> {
+/// Adds what the body stands for to `out`; with a refusal it may have added a part of it.
+pub fn unescape(form: Form, body: &str, out: &mut Vec<u8>) -> Result<(), Refusal> {
     let mut it = body.char_indices().peekable();
     let mut items = 0;
 

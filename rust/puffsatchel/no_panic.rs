@@ -1,0 +1,65 @@
+//! Every public call as a user without std makes it. bin/test-rust compiles this and looks for a call of core's panic.
+
+#![no_std]
+
+use core::fmt::{self, Write};
+
+use puffsatchel::{list, load, outline, read, store, test, unescape};
+use puffsatchel::{Form, Kind, Lexer, Reason, Refusal, Stopped, Token, Tokens};
+
+#[no_mangle]
+pub fn lexer_new(source: &[u8]) -> Lexer<'_> {
+    Lexer::new(source)
+}
+
+#[no_mangle]
+pub fn lexer_next(lexer: &mut Lexer<'_>) -> Option<Result<Token, Refusal>> {
+    lexer.next()
+}
+
+#[no_mangle]
+pub fn one(source: &[u8], at: usize) -> Result<Token, Refusal> {
+    test(source)?;
+    read(source, at)
+}
+
+#[no_mangle]
+pub fn lists(source: &[u8], words: &mut [u32]) -> Result<usize, Stopped> {
+    list(source, words)
+}
+
+#[no_mangle]
+pub fn tokens_next(words: &[u32]) -> Option<Token> {
+    Tokens::of(words).next()
+}
+
+#[no_mangle]
+pub fn outlines(source: &str, out: &mut [u8]) -> Result<(), Refusal> {
+    outline(source, out)
+}
+
+#[no_mangle]
+pub fn unescapes(form: Form, body: &str, out: &mut [u8]) -> Result<usize, Refusal> {
+    unescape(form, body, out)
+}
+
+#[no_mangle]
+pub fn carries(words: &mut [u32], bytes: &mut [u8]) -> Result<usize, Refusal> {
+    store(words, bytes)?;
+    load(bytes, words)
+}
+
+#[no_mangle]
+pub fn numbers(number: u32) -> (Option<Kind>, Option<Reason>, u32) {
+    (Kind::from_number(number), Reason::from_number(number), puffsatchel::version())
+}
+
+#[no_mangle]
+pub fn numbered(kind: Kind, reason: Reason) -> (u32, u32, bool) {
+    (kind.number(), reason.number(), kind.is_whitespace())
+}
+
+#[no_mangle]
+pub fn said(stopped: &Stopped, kind: Kind, out: &mut dyn Write) -> fmt::Result {
+    write!(out, "{stopped} {stopped:?} {kind:?}")
+}

@@ -1,0 +1,96 @@
+//! Whole token lists: into a lent store, and to bytes and back.
+
+use core::fmt;
+use core::slice::ChunksExact;
+
+use crate::calls;
+use crate::kind::Kind;
+use crate::lexer::{Span, Token};
+use crate::refusal::Refusal;
+use crate::WORDS_PER_TOKEN;
+
+/// A listing that stopped at a refusal.
+#[derive(Debug, Clone, Copy, PartialEq, Eq)]
+pub struct Stopped {
+    /// The tokens before the refusal; they are in the store.
+    pub count: usize,
+    /// Why it stopped.
+    pub refusal: Refusal,
+}
+
+impl fmt::Display for Stopped {
+    fn fmt(&self, f: &mut fmt::Formatter<'_>) -> fmt::Result {
+        write!(f, "after {} tokens: {}", self.count, self.refusal)
+    }
+}
+
+impl core::error::Error for Stopped {
+    fn source(&self) -> Option<&(dyn core::error::Error + 'static)> {
+        Some(&self.refusal)
+    }
+}
+
+/// Lists the tokens of a source into a lent store, three words each from its first word on, and answers their count.
+///
+/// The words behind the last token stored are unchanged. A store of three words for each byte of the source, or of
+/// [`LARGEST_LIST`](crate::LARGEST_LIST) words, is always enough.
+///
+/// ```
+/// use puffsatchel::{list, Kind, Tokens};
+///
+/// let mut store = [0; 12];
+/// let count = list("...", &mut store)?;
+/// assert_eq!(store[..3 * count], [52, 0, 2, 28, 2, 3]);
+/// assert!(Tokens::of(&store[..3 * count]).map(|token| token.kind).eq([Kind::DotDot, Kind::Dot]));
+/// # Ok::<(), puffsatchel::Stopped>(())
+/// ```
+pub fn list<S: AsRef<[u8]> + ?Sized>(source: &S, store: &mut [u32]) -> Result<usize, Stopped> {
+    let answered = calls::list(source.as_ref(), store);
+    let count = answered.answer.count;
+
+    match answered.refusal {
+        None => Ok(count),
+        Some(refusal) => Err(Stopped { count, refusal }),
+    }
+}
+
+/// Writes a token list, as [`list`] stores it, as records of 11 bytes, and answers the number of bytes.
+///
+/// A refusal names the record, from 0 on, in its span's start, and has written nothing.
+pub fn store(list: &[u32], out: &mut [u8]) -> Result<usize, Refusal> {
+    calls::store(list, out).or_refusal().map(|answer| answer.count)
+}
+
+/// Reads records back into a token list, and answers the number of words.
+///
+/// A refusal names the record, from 0 on, in its span's start, and has written nothing.
+pub fn load(bytes: &[u8], out: &mut [u32]) -> Result<usize, Refusal> {
+    calls::load(bytes, out).or_refusal().map(|answer| answer.count)
+}
+
+/// The tokens of a list, as [`list`] stores it. It ends early at a number that is no kind's, which no list has.
+#[derive(Debug, Clone)]
+pub struct Tokens<'a>(ChunksExact<'a, u32>);
+
+impl<'a> Tokens<'a> {
+    /// The tokens in these words; one or two words left over at the end are no token.
+    #[must_use]
+    pub fn of(words: &'a [u32]) -> Self {
+        Self(words.chunks_exact(WORDS_PER_TOKEN))
+    }
+}
+
+impl Iterator for Tokens<'_> {
+    type Item = Token;
+
+    fn next(&mut self) -> Option<Token> {
+        let &[number, start, end] = self.0.next()? else {
+            return None;
+        };
+
+        Some(Token {
+            kind: Kind::from_number(number)?,
+            span: Span { start: start as usize, end: end as usize },
+        })
+    }
+}

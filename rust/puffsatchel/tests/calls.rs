@@ -1,0 +1,169 @@
+//! The calls that write. What is expected is document 01's; lent memory is filled with a mark first, and all of it is
+//! compared afterwards.
+
+use puffsatchel::{list, load, outline, store, unescape, Form, Kind, Reason, Refusal, Span, Stopped, Tokens};
+
+const WORD: u32 = 0xa5a5_a5a5;
+const BYTE: u8 = 0xa5;
+
+fn refused(refusal: Refusal) -> (u32, usize, usize) {
+    (refusal.reason.number(), refusal.span.start, refusal.span.end)
+}
+
+/// The answer of `list` with room for so many words, and the words before and behind the end of that room.
+fn listed(source: &str, room: usize) -> (Result<usize, Stopped>, Vec<u32>) {
+    let mut words = vec![WORD; room + 6];
+    let answer = list(source, &mut words[..room]);
+    (answer, words)
+}
+
+#[test]
+fn listing_writes_three_words_a_token() {
+    let (answer, words) = listed("a;", 8);
+    assert_eq!(answer, Ok(2));
+    assert_eq!(words[..6], [6, 0, 1, 31, 1, 2]);
+    assert!(words[6..].iter().all(|&word| word == WORD));
+}
+
+#[test]
+fn listing_stops_and_keeps_what_it_stored() {
+    let (answer, words) = listed("a ''", 20);
+    let stopped = answer.unwrap_err();
+    assert_eq!((stopped.count, refused(stopped.refusal)), (2, (12, 2, 4)));
+    assert_eq!(words[..6], [6, 0, 1, 1, 1, 2]);
+    assert!(words[6..].iter().all(|&word| word == WORD));
+    assert_eq!(stopped.to_string(), format!("after 2 tokens: {}", stopped.refusal));
+}
+
+#[test]
+fn listing_refuses_the_token_without_room() {
+    let (answer, words) = listed("ab;", 5);
+    let stopped = answer.unwrap_err();
+    assert_eq!((stopped.count, refused(stopped.refusal)), (1, (3, 2, 3)));
+    assert_eq!(words[..3], [6, 0, 2]);
+    assert!(words[3..].iter().all(|&word| word == WORD));
+
+    let (answer, _) = listed("", 0);
+    assert_eq!(answer, Ok(0));
+}
+
+#[test]
+fn tokens_of_a_list() {
+    let mut tokens = Tokens::of(&[6, 0, 1, 31, 1, 2, 6, 2]);
+    assert_eq!(tokens.next().map(|token| token.kind), Some(Kind::Ident));
+    assert_eq!(tokens.next().map(|token| token.span), Some(Span { start: 1, end: 2 }));
+    assert_eq!(tokens.next(), None);
+    assert_eq!(Tokens::of(&[0, 0, 1, 6, 1, 2]).next(), None);
+}
+
+#[test]
+fn outlines() {
+    let table = [
+        ("a\"b\\\"c\";", "a\"xxxx\";", None),
+        ("b\"ab\"//é\n", "b\"xx\"//xx\n", None),
+        ("/*ab*/ `a${b}`", "/*xx*/ `xxxxx`", None),
+        ("/*a*/", "/*xxx", None),
+        ("`{`", "`xx", None),
+        ("\"a\" ''b", "\"x\" ''b", Some((12, 4, 7))),
+    ];
+
+    for (source, outlined, refusal) in table {
+        let mut out = vec![BYTE; source.len() + 4];
+        let answer = outline(source, &mut out[..source.len() + 2]);
+        assert_eq!(answer.err().map(refused), refusal, "{source:?}");
+        assert_eq!(&out[..source.len()], outlined.as_bytes(), "{source:?}");
+        assert!(out[source.len()..].iter().all(|&byte| byte == BYTE), "{source:?}");
+    }
+
+    for (source, room, refusal) in [(&b"ab"[..], 1, (3, 0, 0)), (b"a\xff", 2, (2, 1, 1))] {
+        let mut out = [BYTE; 4];
+        assert_eq!(outline(source, &mut out[..room]).err().map(refused), Some(refusal));
+        assert_eq!(out, [BYTE; 4]);
+    }
+}
+
+#[test]
+fn bodies() {
+    use Form::{Byte, ByteText, Char, Template, Text};
+
+    let table: [(Form, &str, Result<&[u8], (u32, usize, usize)>); 18] = [
+        (Text, "", Ok(b"")),
+        (Text, "\\x7f", Ok(b"\x7f")),
+        (Text, "\\x80", Err((23, 0, 4))),
+        (ByteText, "\\xff", Ok(b"\xff")),
+        (Text, "\\u{100000041}", Ok(b"A")),
+        (Text, "\\u{}", Err((22, 0, 4))),
+        (Char, "\\u{d800}", Err((22, 0, 8))),
+        (Text, "\\'\\\"\\n\\r\\t\\\\\\0", Ok(b"'\"\n\r\t\\\0")),
+        (Template, "\\`\\$", Ok(b"`$")),
+        (Text, "\\$", Err((20, 0, 2))),
+        (Text, "a\\\n \u{2028}b", Ok(b"ab")),
+        (Char, "\\\n", Err((20, 0, 2))),
+        (ByteText, "\\u{41}", Err((21, 0, 2))),
+        (ByteText, "aé", Err((25, 1, 3))),
+        (Byte, "\\x4", Err((24, 0, 3))),
+        (Byte, "ab", Err((27, 0, 2))),
+        (Char, "", Err((27, 0, 0))),
+        (Char, "é", Ok("é".as_bytes())),
+    ];
+
+    for (form, body, wanted) in table {
+        let mut out = [BYTE; 16];
+        let answer = unescape(form, body, &mut out[..14]).map_err(refused);
+        assert_eq!(answer, wanted.map(<[u8]>::len), "{form:?} {body:?}");
+
+        let written = wanted.unwrap_or_default();
+        assert_eq!(&out[..written.len()], written, "{form:?} {body:?}");
+        assert!(out[written.len()..].iter().all(|&byte| byte == BYTE), "{form:?} {body:?}");
+    }
+
+    let mut out = [BYTE; 2];
+    assert_eq!(unescape(Text, "abc", &mut out).map_err(refused), Err((26, 0, 3)));
+    assert_eq!(out, [BYTE; 2]);
+}
+
+#[test]
+fn a_list_to_bytes_and_back() {
+    let record = [0x54, 0x4b, 6, 0, 0, 0, 0, 1, 0, 0, 0];
+    let mut bytes = [BYTE; 13];
+    assert_eq!(store(&[6, 0, 1], &mut bytes), Ok(11));
+    assert_eq!((&bytes[..11], &bytes[11..]), (&record[..], &[BYTE; 2][..]));
+
+    let mut words = [WORD; 5];
+    assert_eq!(load(&record, &mut words), Ok(3));
+    assert_eq!(words, [6, 0, 1, WORD, WORD]);
+}
+
+#[test]
+fn faulty_lists() {
+    let mut bytes = [BYTE; 33];
+
+    for (list, room, refusal) in [
+        (&[6, 0][..], 33, (40, 0, 0)),
+        (&[6, 0, 1, 67, 1, 2], 33, (42, 1, 1)),
+        (&[6, 0, 1, 6, 2, 3], 33, (43, 1, 1)),
+        (&[6, 1, 2], 33, (43, 0, 0)),
+        (&[6, 0, 1], 10, (3, 0, 0)),
+    ] {
+        assert_eq!(store(list, &mut bytes[..room]).map_err(refused), Err(refusal));
+        assert_eq!(bytes, [BYTE; 33]);
+    }
+
+    let record = |mark: u8, kind: u8, end: u8| [mark, 0x4b, kind, 0, 0, 0, 0, end, 0, 0, 0];
+    let mut words = [WORD; 3];
+
+    for (bytes, room, refusal) in [
+        (&record(0x54, 6, 1)[..10], 3, (40, 0, 0)),
+        (&record(0x55, 6, 1), 3, (41, 0, 0)),
+        (&record(0x54, 0, 1), 3, (42, 0, 0)),
+        (&record(0x54, 6, 0), 3, (43, 0, 0)),
+        (&record(0x54, 6, 1), 2, (3, 0, 0)),
+    ] {
+        assert_eq!(load(bytes, &mut words[..room]).map_err(refused), Err(refusal));
+        assert_eq!(words, [WORD; 3]);
+    }
+
+    let refusal = load(&record(0x55, 6, 1), &mut words).unwrap_err();
+    assert_eq!(refusal.reason, Reason::BadMark);
+    assert_eq!(refusal.to_string(), "refused 41 at record 0: the record has no mark; give bytes that store has written");
+}
