@@ -15,6 +15,7 @@ mod macros;
 mod numbers;
 mod parse;
 mod shared;
+mod source_id;
 
 use std::io;
 use std::process::ExitCode;
@@ -23,12 +24,7 @@ use answer::Answer;
 use ast::body::{self, Form};
 use frame::{next_frame, Malformed};
 use grammar::script;
-
-#[derive(Debug, Clone, Copy, PartialEq, Eq)]
-pub(crate) struct SourceId(u32);
-
-/// There is one source at a time.
-const SOURCE: SourceId = SourceId(0);
+use source_id::{SourceId, SOURCE};
 
 /// The crate's lexer calls itself for each template opened after a backslash; 65,536 bytes may open 32,768.
 const STACK: usize = 256 << 20;
