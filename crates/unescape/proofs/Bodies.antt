@@ -8,12 +8,12 @@ use native.Mathlib.Omega.{arith}
 use lib.Dec.{ltb}
 use lib.Seq.{length-sets, sets}
 use lib.ListN.{length, length-append}
-use borrow.Author.Tests.{eq-eqb, le-ltb, lt-ltb, ne-eqb}
+use borrow.Author.Tests.{eq-eqb, le-ltb, lt-ltb, ltb-false, ne-eqb}
 use Rattle.encoding.proofs.Round.{step-is-scalar}
 use Rattle.escapes.specs.Escapes.{byteEscape, charEscape}
 use Rattle.escapes.specs.declared.Escape.{Escape}
 use Rattle.escapes.specs.declared.Escape.the-variants.{Bad, Item, Skipped}
-use Rattle.laws.proofs.Cases.{never}
+use Rattle.laws.proofs.Cases.{never, split, split-eq}
 use Rattle.laws.specs.Bools.{pick, same}
 use Rattle.text.proofs.Decode.{Step, rest-tail, width-pos}
 use Rattle.text.specs.Source.{sourceTest}
@@ -23,7 +23,7 @@ use Rattle.text.specs.declared.source.Tested.the-variants.{IllFormed, Misplaced
 use Rattle.unescape.proofs.Items.{Fits, item-fits}
 use Rattle.unescape.proofs.Lands.{Lands, item-lands, lands-le, lands-room, placeOf}
 use Rattle.unescape.proofs.Stores.{sets-append}
-use Rattle.unescape.specs.Bodies.{Body, Ending, Result, also, bodyOf, fault, isBytes, isSingle, isTemplate, itemBytes, itemOf, judge, measuredOf, noMore, readOf, refuse, refusedAt, turnOf, unescapeOf, whole, writtenOf, wrongCount, wrote}
+use Rattle.unescape.specs.Bodies.{Body, Ending, Result, also, bodyOf, fault, isBytes, isSingle, isTemplate, itemBytes, itemOf, judge, measuredOf, noMore, readOf, refuse, refusedAt, standsOf, turnOf, unescapeOf, whole, writtenOf, wrongCount, wrote}
 use Rattle.unescape.specs.declared.body.Form.{Form}
 use Rattle.unescape.specs.declared.body.Measured.{Measured}
 use Rattle.unescape.specs.declared.body.Measured.the-variants.{Stopped, Whole}
@@ -51,6 +51,28 @@ module _ (form : Form) (v : ℕ) (cs : List ℕ) (p : ℕ) where
     pub item-plain : isBytes form ≡ false → Item v p ≡ itemOf form v cs p
     unfolding itemOf
     item-plain k = rw (ne-eqb v 0x5c h, k)
+
+module _ (form : Form) (v : ℕ) where
+  pub stands-no : v ≡ 0x5c → false ≡ standsOf form v
+  unfolding standsOf
+  stands-no h = rw (eq-eqb v 0x5c h)
+
+  pub stands-low : (v ≡ 0x5c → ⊥) → v ≤ 0x7f → true ≡ standsOf form v
+  unfolding standsOf
+  stands-low h l = rw (ne-eqb v 0x5c h, le-ltb 0x7f v l)
+
+  pub stands-high : (v ≡ 0x5c → ⊥) → 0x7f < v → {b : Bool} → b ≡ isBytes form → not b ≡ standsOf form v
+  unfolding standsOf
+  stands-high h l e = rw (ne-eqb v 0x5c h, lt-ltb 0x7f v l) (ap not e)
+
+  -- .. so it is an item
+  pub item-stands : (cs : List ℕ) (p : ℕ) → standsOf form v ≡ true → Item v p ≡ itemOf form v cs p
+  unfolding standsOf
+  item-stands cs p e =
+      split-eq v 0x5c (λ h. never (let z = stands-no h in cc))
+      (λ h. split (isBytes form)
+      (λ k. split (ltb 0x7f v) (λ l. never (let z = (rw (ne-eqb v 0x5c h, l, k) at e) in cc)) (λ l. item-low form v cs p h k (ltb-false 0x7f v l)))
+      (λ k. item-plain form v cs p h k))
 
 pub arrived : (form : Form) (cs : List ℕ) (t : ℕ) → bodyOf form t cs t ≡ bodyOf form 0 cs t
 unfolding bodyOf

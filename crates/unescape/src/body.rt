@@ -20,7 +20,7 @@ ghost use lib.Seq.{sets};
 ghost use lib.ListN.{length, take};
 ghost use Rattle.encoding.specs.Encode.{padded};
 ghost use Rattle.text.specs.Utf8.{rest};
-ghost use Rattle.unescape.specs.Bodies.{bodyOf, isBytes, isSingle, isTemplate, itemBytes, itemOf, measuredOf, readOf, refusedAt, unescapeOf, writtenOf, wrongCount};
+ghost use Rattle.unescape.specs.Bodies.{bodyOf, isBytes, isSingle, isTemplate, itemBytes, itemOf, measuredOf, readOf, refusedAt, standsOf, unescapeOf, writtenOf, wrongCount};
 
 // How a body is read. A char or a byte is one item.
 pub enum Form {
@@ -108,6 +108,19 @@ fn item_at(s: &[u8], form: Form, v: u32, next: usize) -> Escape
     Escape::Item { value: v, next }
 }
 
+// Whether a scalar stands for itself: no backslash, and none above U+007F in bytes. Asked before `item_at`, which is too long to be inlined.
+fn stands(form: Form, v: u32) -> bool
+    ensures { λ r. ⌜ r ≡ standsOf form v ⌝ }
+{
+    if v == 0x5c {
+        return false;
+    }
+    if v <= 0x7f {
+        return true;
+    }
+    !is_bytes(form)
+}
+
 // The bytes of an item.
 fn item_bytes(form: Form, item: u32) -> Encoded
     requires { ⌜ (isBytes form ≡ true → item ≤ 0xff) ⌝ }
@@ -130,25 +143,32 @@ fn measure(s: &[u8], form: Form) -> Measured
         let Scalar::One { value, next } = text::scalar_at(s, at) else {
             return Measured::Whole { items, count };
         };
-        match item_at(s, form, value, next) {
-            Escape::Item {
-                value: item,
-                next: end,
-            } => {
-                let encoded = item_bytes(form, item);
-                items = items + 1;
-                count = count + encoded.len;
-                at = end;
-            }
-            Escape::Skipped { next: end } => {
-                at = end;
-            }
-            Escape::Bad { number, next: end } => {
-                return Measured::Stopped {
-                    number,
-                    start: at,
-                    end,
-                };
+        if stands(form, value) {
+            let encoded = item_bytes(form, value);
+            items = items + 1;
+            count = count + encoded.len;
+            at = next;
+        } else {
+            match item_at(s, form, value, next) {
+                Escape::Item {
+                    value: item,
+                    next: end,
+                } => {
+                    let encoded = item_bytes(form, item);
+                    items = items + 1;
+                    count = count + encoded.len;
+                    at = end;
+                }
+                Escape::Skipped { next: end } => {
+                    at = end;
+                }
+                Escape::Bad { number, next: end } => {
+                    return Measured::Stopped {
+                        number,
+                        start: at,
+                        end,
+                    };
+                }
             }
         }
     }
@@ -188,23 +208,32 @@ fn write_items(s: &[u8], form: Form, out: &mut [u8])
         let Scalar::One { value, next } = text::scalar_at(s, at) else {
             return;
         };
-        match item_at(s, form, value, next) {
-            Escape::Item {
-                value: item,
-                next: end,
-            } => {
-                let encoded = item_bytes(form, item);
-                let len = encoded.len;
-                let bytes = encoded.bytes;
-                put(out, n, &bytes, len);
-                n = n + len;
-                at = end;
-            }
-            Escape::Skipped { next: end } => {
-                at = end;
-            }
-            Escape::Bad { number: _, next: _ } => {
-                return;
+        if stands(form, value) {
+            let encoded = item_bytes(form, value);
+            let len = encoded.len;
+            let bytes = encoded.bytes;
+            put(out, n, &bytes, len);
+            n = n + len;
+            at = next;
+        } else {
+            match item_at(s, form, value, next) {
+                Escape::Item {
+                    value: item,
+                    next: end,
+                } => {
+                    let encoded = item_bytes(form, item);
+                    let len = encoded.len;
+                    let bytes = encoded.bytes;
+                    put(out, n, &bytes, len);
+                    n = n + len;
+                    at = end;
+                }
+                Escape::Skipped { next: end } => {
+                    at = end;
+                }
+                Escape::Bad { number: _, next: _ } => {
+                    return;
+                }
             }
         }
     }
