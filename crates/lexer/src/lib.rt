@@ -3,5 +3,6 @@ mod cycle;
 mod source;
 
 pub use cycle::read_token;
+pub use source::later;
 pub use source::next;
 pub use source::read;

@@ -4,6 +4,7 @@ use text::Scalar;
 use text::Tested;
 use token::Kind;
 use token::Read;
+ghost use Prim.Native.Nat.{_<_};
 ghost use mathlib.Core.Path.{_≡_};
 ghost use Rattle.lexer.specs.Next.{closeSpan, isShebang, nextAt, readAt};
 ghost use Rattle.text.specs.Utf8.{rest};
@@ -48,6 +49,14 @@ pub fn next(s: &[u8], at: usize) -> Read
             return token::got(Kind::Shebang, 0, readers::consume_line(s, 2));
         }
     }
+    close_span(s.len(), read_token(s, at, 64))
+}
+
+// The same behind the source's first place, where no shebang stands: short, so that the compiler inlines it where many tokens are read.
+pub fn later(s: &[u8], at: usize) -> Read
+    requires { ⌜ 0 < at ⌝ }
+    ensures { λ r. ⌜ r ≡ nextAt (now (s .entry)) at ⌝ }
+{
     close_span(s.len(), read_token(s, at, 64))
 }
 
