@@ -53,6 +53,10 @@ escapeOf form cs p = pick (isBytes form) (byteEscape (not (isSingle form)) cs p)
 unfoldable pub itemOf : Form → ℕ → List ℕ → ℕ → Escape
 itemOf form v cs p = pick (eqb v 0x5c) (escapeOf form cs p) (plainOf form v p)
 
+-- a scalar that is read as itself in every form: ASCII and no backslash
+unfoldable pub itselfOf : ℕ → Bool
+itselfOf v = pick (ltb 0x7f v) false (not (eqb v 0x5c))
+
 -- a scalar that is read as itself: no backslash, and none above U+007F in bytes
 unfoldable pub standsOf : Form → ℕ → Bool
 standsOf form v = pick (eqb v 0x5c) false (pick (ltb 0x7f v) (not (isBytes form)) true)

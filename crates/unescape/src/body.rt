@@ -20,7 +20,7 @@ ghost use lib.Seq.{sets};
 ghost use lib.ListN.{length, take};
 ghost use Rattle.encoding.specs.Encode.{padded};
 ghost use Rattle.text.specs.Utf8.{rest};
-ghost use Rattle.unescape.specs.Bodies.{bodyOf, isBytes, isSingle, isTemplate, itemBytes, itemOf, measuredOf, readOf, refusedAt, standsOf, unescapeOf, writtenOf, wrongCount};
+ghost use Rattle.unescape.specs.Bodies.{bodyOf, isBytes, isSingle, isTemplate, itemBytes, itemOf, itselfOf, measuredOf, readOf, refusedAt, standsOf, unescapeOf, writtenOf, wrongCount};
 
 // How a body is read. A char or a byte is one item.
 pub enum Form {
@@ -108,6 +108,16 @@ fn item_at(s: &[u8], form: Form, v: u32, next: usize) -> Escape
     Escape::Item { value: v, next }
 }
 
+// ASCII and no backslash: one byte that stands for itself in every form. Asked first, since most scalars are such.
+fn is_itself(v: u32) -> bool
+    ensures { λ r. ⌜ r ≡ itselfOf v ⌝ }
+{
+    if 0x7f < v {
+        return false;
+    }
+    v != 0x5c
+}
+
 // Whether a scalar stands for itself: no backslash, and none above U+007F in bytes. Asked before `item_at`, which is too long to be inlined.
 fn stands(form: Form, v: u32) -> bool
     ensures { λ r. ⌜ r ≡ standsOf form v ⌝ }
@@ -143,7 +153,11 @@ fn measure(s: &[u8], form: Form) -> Measured
         let Scalar::One { value, next } = text::scalar_at(s, at) else {
             return Measured::Whole { items, count };
         };
-        if stands(form, value) {
+        if is_itself(value) {
+            items = items + 1;
+            count = count + 1;
+            at = next;
+        } else if stands(form, value) {
             let encoded = item_bytes(form, value);
             items = items + 1;
             count = count + encoded.len;
@@ -208,7 +222,11 @@ fn write_items(s: &[u8], form: Form, out: &mut [u8])
         let Scalar::One { value, next } = text::scalar_at(s, at) else {
             return;
         };
-        if stands(form, value) {
+        if is_itself(value) {
+            out[n] = value as u8;
+            n = n + 1;
+            at = next;
+        } else if stands(form, value) {
             let encoded = item_bytes(form, value);
             let len = encoded.len;
             let bytes = encoded.bytes;
