@@ -31,13 +31,15 @@ fn is_shebang(s: &[u8]) -> bool
 fn close_span(end: usize, r: Read) -> Read
     ensures { λ q. ⌜ q ≡ closeSpan end r ⌝ }
 {
-    let Read::Refused { refusal } = r else {
-        return r;
-    };
-    if refusal.number != 12 {
-        return r;
+    match r {
+        Read::Got { token } => Read::Got { token },
+        Read::Refused { refusal } => {
+            if refusal.number != 12 {
+                return Read::Refused { refusal };
+            }
+            token::refused(12, refusal.span.start, end, refusal.reached)
+        }
     }
-    token::refused(12, refusal.span.start, end, refusal.reached)
 }
 
 // For a caller that has tested the source once: total on every slice and position.
