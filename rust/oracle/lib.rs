@@ -35,6 +35,13 @@ const SOURCE: SourceId = SourceId(0);
 /// The crate's lexer calls itself for each template opened after a backslash; 65,536 bytes may open 32,768.
 pub const STACK: usize = 256 << 20;
 
+/// Adds the tokens of a source to `out`, each as document 01's kind with its start and end; false where it is refused.
+pub fn list(source: &[u8], out: &mut Vec<[u32; 3]>) -> bool {
+    text(source)
+        .and_then(|source| list_words(source, |token| out.push(token)))
+        .is_ok()
+}
+
 /// Answers the frames on standard input; with a number, by a digest after every so many frames.
 pub fn run(digest_every: Option<u64>) -> Result<(), String> {
     let mut answer = Answer::new(digest_every);

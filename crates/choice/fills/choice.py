@@ -12,21 +12,30 @@ fill('read_left', {
 fill('read_other', {
     'returns': '@read-left .ensures ∙ other-left noTemplate $a$ $cs$ $at$ $v$ (sym (@next-operator .ensures) ∙ @enum-told .given .1)',
     'returns-2': '@got .ensures ∙ other-found noTemplate $a$ $cs$ $at$ $v$ _ _ (sym (@next-operator .ensures) ∙ @kind .given .1)'}, macros=S)
-T = dict(S, t='noTemplate $a$ $s$ $at$', u='noTemplate $a$ $s$ $at$ $w$ $n$ $step$')
-fill('read_slash', {
-    'returns': '@read-other .ensures ∙ slash-end $t$ $end$',
-    'returns-2': ('lineOf', '@got .ensures ∙ ap (gotOf Comment $a$) (@consume-line .ensures) ∙ slash-line $u$ (@if1 .taken)'),
-    'returns-3': '@next-multiline-comment .ensures ∙ slash-comment $u$ (@if1 .left) (@if2 .taken)',
-    'returns-4': '@read-other2 .ensures ∙ slash-other $u$ (@if1 .left) (@if2 .left)'}, macros=T)
-fill('read_b', {
-    'returns': '@read-other .ensures ∙ b-end $t$ $end$',
-    'returns-2': '@next-lit-byte .ensures ∙ b-byte $u$ (@if1 .taken)',
-    'returns-3': '@next-str .ensures ∙ b-str $u$ (@if1 .left) (@if2 .taken)',
-    'returns-4': '@read-other2 .ensures ∙ b-other $u$ (@if1 .left) (@if2 .left)'}, macros=T)
-F = dict(S, f='noTemplate $a$ $cs$ $at$ $v$', at2='(λ (x : ℕ). firstOf base noTemplate x $a$ $cs$ $at$)')
+
+
+def second(n):
+    """What the code knows of the scalar behind a `/` or a `b`."""
+    w, place = f'(@second{n} .given .0 .0)', f'(@second{n} .given .0 .1 .0)'
+    return f'noTemplate $a$ $s$ $at$ {w} {place} (step-one $s$ $at$ {w} {place} (sym (@scalar-at{n} .ensures) ∙ @second{n} .given .1))'
+
+
+def neither(c, law, place, other, otherwise):
+    """The ways past the mark c: it opens nothing with the scalar behind it, it is the last scalar, or (`other`) no such mark stands there."""
+    there = 'step-one $s$ $at$ _ _ (sym (w .1 .ensures) ∙ w .3 .given .1)'
+    last = 'step-none $s$ $at$ (sym (w .1 .ensures) ∙ w .3 .given .1)'
+    return (f'⊎-elim (λ w. by-mark $f$ {c} (w .0 .taken) ({law}-other noTemplate $a$ $s$ $at$ _ _ ({there}) (w .5 .left) (w .6 .left)))'
+            f' (λ x. ⊎-elim (λ w. by-mark $f$ {c} (w .0 .taken) ({law}-end noTemplate $a$ $s$ $at$ ({last}))) (λ {other}. {otherwise}) x) (@{place} .came)')
+
+
+F = dict(S, f='noTemplate $a$ $cs$ $at$ $v$', at2='(λ (x : ℕ). firstOf base noTemplate x $a$ $cs$ $at$)', u=second(''), u2=second('2'),
+         slash='sym (ap $at2$ (@if3 .taken))', b='sym (ap $at2$ (@if6 .taken))')
 fill('read_first', {
     'returns': ('whiteOf', '@got .ensures ∙ ap (gotOf Whitespace $a$) (@consume-whitespace .ensures) ∙ first-white $f$ (sym (@is-whitespace .ensures) ∙ @if1 .taken)'),
-    'returns-2': '@next-str .ensures ∙ first-str $f$ (@match .keys1)',
-    'returns-3': '@read-slash .ensures ∙ sym (ap $at2$ (@match .keys2))',
-    'returns-4': '@read-b .ensures ∙ sym (ap $at2$ (@match .keys3))',
-    'returns-5': '@read-other .ensures ∙ first-other $f$ (sym (@is-whitespace .ensures) ∙ @if1 .left) (@match .rest .0 .0 .1) (@match .rest .0 .1) (@match .rest .1)'}, macros=F)
+    'returns-2': '@next-str .ensures ∙ first-str $f$ (@if2 .taken)',
+    'returns-3': ('lineOf', '@got2 .ensures ∙ ap (gotOf Comment $a$) (@consume-line .ensures) ∙ slash-line $u$ (@if4 .taken) ∙ $slash$'),
+    'returns-4': '@next-multiline-comment .ensures ∙ slash-comment $u$ (@if4 .left) (@if5 .taken) ∙ $slash$',
+    'returns-5': '@next-lit-byte .ensures ∙ b-byte $u2$ (@if7 .taken) ∙ $b$',
+    'returns-6': '@next-str2 .ensures ∙ b-str $u2$ (@if7 .left) (@if8 .taken) ∙ $b$',
+    'returns-7': '@read-other .ensures ∙ ' + neither(98, 'b', 'if6', 'no-b', neither(47, 'slash', 'if3', 'no-slash',
+        'first-other $f$ (sym (@is-whitespace .ensures) ∙ @if1 .left) (@if2 .left) (no-slash .left) (no-b .left)'))}, macros=F)

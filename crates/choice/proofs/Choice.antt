@@ -1,6 +1,6 @@
 -- Which rule the code's tests choose, and cases on the rule chosen. Assumes nothing.
 use Prim.Native.Nat.{ℕ}
-use mathlib.Core.Path.{_≡_, refl, sym, ap, _∙_}
+use mathlib.Core.Path.{_≡_, refl, sym, ap, _∙_, subst}
 use mathlib.Core.List.{List, [], _∷_}
 use mathlib.Core.Bool.{Bool, true, false}
 use lib.Dec.{eqb}
@@ -35,6 +35,10 @@ module _ (t : Deep) (a : ℕ) (cs : List ℕ) (p v : ℕ) where
   pub first-other : isWhiteSpace v ≡ false → (v ≡ 34 → ⊥) → (v ≡ 47 → ⊥) → (v ≡ 98 → ⊥) → otherOf base t v a cs p ≡ firstOf base t v a cs p
   unfolding firstOf
   first-other h i j k = rw (h, ne-eqb v 34 i, ne-eqb v 47 j, ne-eqb v 98 k, firstOf)
+
+  -- what holds of the mark c holds of v, which is that mark
+  pub by-mark : (c : ℕ) → v ≡ c → otherOf base t c a cs p ≡ firstOf base t c a cs p → otherOf base t v a cs p ≡ firstOf base t v a cs p
+  by-mark c h k = subst (λ (x : ℕ). otherOf base t x a cs p ≡ firstOf base t x a cs p) (sym h) k
 
   pub other-found : (k : Kind) (e : ℕ) → operatorOf base v cs p ≡ Found k e → gotOf k a e ≡ otherOf base t v a cs p
   unfolding otherOf

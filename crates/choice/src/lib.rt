@@ -36,48 +36,47 @@ fn read_other(s: &[u8], value: u32, start: usize, at: usize) -> Read
     token::got(kind, start, end)
 }
 
-// Behind a `/`: a line comment, a comment or an operator.
-fn read_slash(s: &[u8], start: usize, at: usize) -> Read
-    ensures { λ r. ⌜ r ≡ firstOf base noTemplate 47 start (rest (now (s .entry)) at) at ⌝ }
-{
-    let Scalar::One { value, next } = text::scalar_at(s, at) else {
-        return read_other(s, 47, start, at);
-    };
-    if value == 47 {
-        return token::got(Kind::Comment, start, readers::consume_line(s, next));
-    }
-    if value == 42 {
-        return readers::next_multiline_comment(s, start, next);
-    }
-    read_other(s, 47, start, at)
-}
-
-// Behind a `b`: a byte, a byte string or a word.
-fn read_b(s: &[u8], start: usize, at: usize) -> Read
-    ensures { λ r. ⌜ r ≡ firstOf base noTemplate 98 start (rest (now (s .entry)) at) at ⌝ }
-{
-    let Scalar::One { value, next } = text::scalar_at(s, at) else {
-        return read_other(s, 98, start, at);
-    };
-    if value == 39 {
-        return strings::next_lit_byte(s, start, next);
-    }
-    if value == 34 {
-        return strings::next_str(s, true, start, next);
-    }
-    read_other(s, 98, start, at)
-}
-
+// `read_other` has one call, at the end: so the compiler inlines it, and the answer for an operator or a word is not copied once more.
 pub fn read_first(s: &[u8], value: u32, start: usize, at: usize) -> Read
     ensures { λ r. ⌜ r ≡ firstOf base noTemplate value start (rest (now (s .entry)) at) at ⌝ }
 {
     if classes::is_whitespace(value) {
         return token::got(Kind::Whitespace, start, readers::consume_whitespace(s, at));
     }
-    match value {
-        34 => strings::next_str(s, false, start, at),
-        47 => read_slash(s, start, at),
-        98 => read_b(s, start, at),
-        _ => read_other(s, value, start, at),
+    if value == 34 {
+        return strings::next_str(s, false, start, at);
     }
+    if value == 47 {
+        match text::scalar_at(s, at) {
+            Scalar::One {
+                value: second,
+                next,
+            } => {
+                if second == 47 {
+                    return token::got(Kind::Comment, start, readers::consume_line(s, next));
+                }
+                if second == 42 {
+                    return readers::next_multiline_comment(s, start, next);
+                }
+            }
+            Scalar::None => {}
+        }
+    }
+    if value == 98 {
+        match text::scalar_at(s, at) {
+            Scalar::One {
+                value: second,
+                next,
+            } => {
+                if second == 39 {
+                    return strings::next_lit_byte(s, start, next);
+                }
+                if second == 34 {
+                    return strings::next_str(s, true, start, next);
+                }
+            }
+            Scalar::None => {}
+        }
+    }
+    read_other(s, value, start, at)
 }

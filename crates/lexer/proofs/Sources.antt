@@ -2,20 +2,18 @@
 use Prim.Native.Nat.{ℕ, _+_}
 use mathlib.Core.Path.{_≡_, refl, sym, ap, _∙_, subst}
 use mathlib.Core.List.{List, [], _∷_}
-use mathlib.Core.Bool.{true, false}
+use mathlib.Core.Bool.{Bool, true, false}
 use native.Mathlib.Omega.{arith}
 use lib.Dec.{eqb}
-use lib.ListN.{length}
 use borrow.Author.Tests.{eq-eqb, eqb-true, ne-eqb}
 use Rattle.laws.proofs.Cases.{both-false, both-inv, never}
 use Rattle.laws.specs.Bools.{both}
-use Rattle.lexer.specs.Next.{closeSpan, isShebang, nextAt, nextOf, readAt, shebangOf}
+use Rattle.lexer.specs.Next.{closeSpan, isShebang, laterAt, nextAt, nextOf, readAt, shebangOf}
 use Rattle.readers.specs.Readers.{inLine, lineOf, run}
 use Rattle.readers.specs.Rules.{base}
 use Rattle.sound.specs.Source.{positionTest}
 use Rattle.sound.specs.declared.Tested.{Tested}
 use Rattle.sound.specs.declared.Tested.the-variants.{IllFormed, Misplaced, Sound, TooLong}
-use Rattle.templates.specs.Body.{tokenOf}
 use Rattle.text.proofs.Decode.{Step, rest-tail}
 use Rattle.text.proofs.Leads.{width-1}
 use Rattle.text.specs.Utf8.{rest, width}
@@ -69,9 +67,12 @@ next-shebang s at z h = subst (λ (x : ℕ). gotOf Shebang 0 (run base inLine (r
         let two : 0 + width v + width w ≡ 2 = omega arith in
         sym (λ k. gotOf Shebang 0 (run base inLine (((e2 ∙ ap (rest s) two)) k) (two k)))
 
-pub next-token : (s : List ℕ) (at : ℕ) → both (eqb at 0) (isShebang (rest s at)) ≡ false → closeSpan (length s) (tokenOf base 64 (rest s at) at) ≡ nextAt s at
-unfolding nextAt nextOf
-next-token s at h = rw h
+pub later-token : (s : List ℕ) (at : ℕ) → both (eqb at 0) (isShebang (rest s at)) ≡ false → laterAt s at ≡ nextAt s at
+unfolding laterAt nextAt nextOf
+later-token s at h = rw h
+
+pub later-next : (s : List ℕ) (at : ℕ) → (at ≡ 0 → ⊥) → laterAt s at ≡ nextAt s at
+later-next s at h = later-token s at (ap (λ (b : Bool). both b (isShebang (rest s at))) (ne-eqb at 0 h))
 
 pub no-shebang : (s : List ℕ) (at : ℕ) → at ≡ 0 → isShebang (rest s 0) ≡ false → both (eqb at 0) (isShebang (rest s at)) ≡ false
 no-shebang s at z h = subst (λ (x : ℕ). both (eqb x 0) (isShebang (rest s x)) ≡ false) (sym z) h

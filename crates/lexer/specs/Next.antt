@@ -37,6 +37,10 @@ nextOf R n cs p = pick (both (eqb p 0) (isShebang cs)) (shebangOf R cs p) (close
 unfoldable pub nextAt : List ℕ → ℕ → Read
 nextAt s at = nextOf base (length s) (rest s at) at
 
+-- the same where no shebang can stand, behind position 0
+unfoldable pub laterAt : List ℕ → ℕ → Read
+laterAt s at = closeSpan (length s) (tokenOf base 64 (rest s at) at)
+
 -- 1, 2 and 4 in this order, then reading
 unfoldable pub readAt : List ℕ → ℕ → Read
 readAt s at =

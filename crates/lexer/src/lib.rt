@@ -5,7 +5,7 @@ use text::Scalar;
 use token::Kind;
 use token::Read;
 ghost use mathlib.Core.Path.{_≡_};
-ghost use Rattle.lexer.specs.Next.{closeSpan, isShebang, nextAt, readAt};
+ghost use Rattle.lexer.specs.Next.{closeSpan, isShebang, laterAt, nextAt, readAt};
 ghost use Rattle.text.specs.Utf8.{rest};
 
 fn is_shebang(s: &[u8]) -> bool
@@ -30,13 +30,22 @@ fn is_shebang(s: &[u8]) -> bool
 fn close_span(end: usize, r: Read) -> Read
     ensures { λ q. ⌜ q ≡ closeSpan end r ⌝ }
 {
-    let Read::Refused { refusal } = r else {
-        return r;
-    };
-    if refusal.number != 12 {
-        return r;
+    match r {
+        Read::Got { token } => Read::Got { token },
+        Read::Refused { refusal } => {
+            if refusal.number != 12 {
+                return Read::Refused { refusal };
+            }
+            token::refused(12, refusal.span.start, end, refusal.reached)
+        }
     }
-    token::refused(12, refusal.span.start, end, refusal.reached)
+}
+
+// For a place behind 0, where no shebang is looked for; for a caller that has tested the source once. Total on every slice and position.
+pub fn later(s: &[u8], at: usize) -> Read
+    ensures { λ r. ⌜ r ≡ laterAt (now (s .entry)) at ⌝ }
+{
+    close_span(s.len(), read_token(s, at, 64))
 }
 
 // For a caller that has tested the source once: total on every slice and position.
@@ -48,7 +57,7 @@ pub fn next(s: &[u8], at: usize) -> Read
             return token::got(Kind::Shebang, 0, readers::consume_line(s, 2));
         }
     }
-    close_span(s.len(), read_token(s, at, 64))
+    later(s, at)
 }
 
 pub fn read(s: &[u8], at: usize) -> Read

@@ -1,7 +1,8 @@
 M = {'s': '(@Start .args .s .now)', 'o0': '(@Start .args .store .now)', 'o': '(@loop .store)', 'at': '(@loop .at)', 'n': '(@loop .n)', 'c': '(@loop .count)',
-     'h': '$s$ $o0$ $o$ $at$ $n$ $c$ (@loop .inv) (@next .result) (@next .ensures)',
+     'h': '$s$ $o0$ $o$ $at$ $n$ $c$ (@loop .inv) (@next-token .result) (@next-token .ensures)',
      'k': '(@token .given .0 .0) (@token .given .1)', 'e': '(@token .given .0 .0 .span .end)'}
 far = 'omega (arith, @loop .inv, @Start .pre, @Start .good)'
+fill('next_token', {'returns': '@next .ensures', 'returns-2': '@later .ensures ∙ later-next $s$ $at$ (@if1 .left)'}, macros={'s': '(@Start .args .s .now)', 'at': '(@Start .args .at)'})
 fill('list_tokens', {
     'Inv-loop': 'Head s store₀ store at n count', 'μ-loop': 'length s - at',
     'loop-holds': 'head-first _ _',

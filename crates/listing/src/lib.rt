@@ -7,6 +7,7 @@ ghost use Prim.Native.Nat.{_≤_};
 ghost use mathlib.Core.Path.{_≡_};
 ghost use lib.Seq.{sets};
 ghost use lib.ListN.{length};
+ghost use Rattle.lexer.specs.Next.{nextAt};
 ghost use Rattle.listing.specs.Listing.{answerOf, listOf, pointRefusal, storedOf, wordsOf};
 ghost use Rattle.listing.specs.declared.Listed.the-variants.{Stopped};
 ghost use Rattle.readers.specs.Rules.{base};
@@ -46,6 +47,16 @@ fn no_room(count: usize, span: Span) -> Listed
     }
 }
 
+// A shebang stands at 0 alone: everywhere else it is not looked for.
+fn next_token(s: &[u8], at: usize) -> Read
+    ensures { λ r. ⌜ r ≡ nextAt (now (s .entry)) at ⌝ }
+{
+    if at == 0 {
+        return lexer::next(s, at);
+    }
+    lexer::later(s, at)
+}
+
 fn list_tokens(s: &[u8], store: &mut [u32]) -> Listed
     requires { ⌜ length (now s) ≤ 65536 ⌝ }
     ensures { λ r. ⌜ (r ≡ answerOf (tokensAt base (now (s .entry)) 0) (length (now (store .entry))) 0)
@@ -55,7 +66,7 @@ fn list_tokens(s: &[u8], store: &mut [u32]) -> Listed
     let mut n: usize = 0;
     let mut count: usize = 0;
     loop {
-        match lexer::next(s, at) {
+        match next_token(s, at) {
             Read::Refused { refusal } => {
                 return Listed::Stopped { count, refusal };
             }

@@ -2,6 +2,13 @@ S = {'end': '(step-none _ _ (sym (@scalar-at .ensures) ∙ @enum-told .given .1)
      'step': '_ _ (step-one _ _ _ _ (sym (@scalar-at .ensures) ∙ @value .given .1)) _ (@item-at .ensures)',
      'len': '(ap (λ (r : Encoded). r .len) (@item-bytes .ensures))',
      's': '(@Start .args .s .now)', 'form': '(@Start .args .form)', 'bytes': '(sym (@is-bytes .ensures) ∙ @if1 .taken)', 'text': '(sym (@is-bytes .ensures) ∙ @if1 .left)'}
+fill('body/is_itself', {
+    'returns': 'itself-no _ (@if1 .taken)',
+    'returns-2': 'itself-low _ (@if1 .left)'})
+fill('body/stands', {
+    'returns': 'stands-no _ _ (@if1 .taken)',
+    'returns-2': 'stands-low _ _ (@if1 .left) (@if2 .taken)',
+    'returns-3': 'stands-high _ _ (@if1 .left) (@if2 .left) (@is-bytes .ensures)'})
 fill('body/item_bytes', {
     'cast-t5': 'omega (arith, @Start .pre $bytes$)',
     'returns': 'ap padded (sym (byte-bytes $form$ (@Start .args .item) $bytes$))',
@@ -25,34 +32,69 @@ fill('body/put', {
             'two': '(putting-next _ _ _ _ _ 1 $one$ (omega arith) $four$)',
             'three': '(putting-next _ _ _ _ _ 2 $two$ (omega arith) $four$)',
             'all': '(putting-next _ _ _ _ _ 3 $three$ (omega arith) $four$)'})
+# A scalar that stands for itself goes the way of an item: `own` is its step, `ascii` that of one that is ASCII, as `step` is that of what
+# `item_at` answers.
+OWN = dict(S, here='(step-one _ _ _ _ (sym (@scalar-at .ensures) ∙ @value .given .1))', v='(@value .given .0 .0)',
+           own='_ _ $here$ _ (item-stands $form$ _ _ _ (sym (@stands .ensures) ∙ @if2 .taken))',
+           itself='(sym (@is-itself .ensures) ∙ @if1 .taken)',
+           ascii='_ _ $here$ _ (item-stands $form$ _ _ _ (itself-stands $v$ $form$ $itself$))',
+           single='ap length (itself-bytes $v$ $form$ $itself$)', one='(omega (arith, $single$))',
+           len2='(ap (λ (r : Encoded). r .len) (@item-bytes2 .ensures))',
+           less='omega (arith, next-past $form$ $s$ _ $ascii$, next-room $form$ $s$ _ $ascii$)',
+           less2='omega (arith, next-past $form$ $s$ _ $own$, next-room $form$ $s$ _ $own$)',
+           less3='omega (arith, next-past $form$ $s$ _ $step$, next-room $form$ $s$ _ $step$, ap placeOf (@item .given .1))',
+           less4='omega (arith, next-past $form$ $s$ _ $step$, next-room $form$ $s$ _ $step$, ap placeOf (@end .given .1))')
 fill('body/measure', {
     'Inv-loop': 'Measuring form s at items count', 'μ-loop': 'length s - at',
     'loop-holds': 'measuring-first _ _',
     'returns': 'measured-end _ _ _ _ _ (@loop .inv) $end$',
-    'item-bytes-requires': 'fits-here _ _ _ $step$ _ _ (@item .given .1) .byte',
-    'add-items': 'let i = $item$ in omega (arith, i .few, i .inside)',
-    'add-count': 'let i = $item$ in omega (arith, i .less, i .inside)',
-    'loop-less': 'omega (arith, next-past $form$ $s$ _ $step$, next-room $form$ $s$ _ $step$, ap placeOf (@item .given .1))',
-    'loop-again': '$item$',
-    'loop-less-2': 'omega (arith, next-past $form$ $s$ _ $step$, next-room $form$ $s$ _ $step$, ap placeOf (@end .given .1))',
-    'loop-again-2': 'measuring-skipped _ _ _ _ _ (@loop .inv) $step$ _ (@end .given .1)',
+    'add-items': 'let i = $low$ in omega (arith, i .few, i .inside)',
+    'add-count': 'let i = $low$ in omega (arith, i .less, i .inside)',
+    'loop-less': '$less$',
+    'loop-again': '$low$',
+    'item-bytes-requires': 'fits-here _ _ _ $own$ _ _ refl .byte',
+    'add-items-2': 'let i = $plain$ in omega (arith, i .few, i .inside)',
+    'add-count-2': 'let i = $plain$ in omega (arith, i .less, i .inside)',
+    'loop-less-2': '$less2$',
+    'loop-again-2': '$plain$',
+    'item-bytes-requires-2': 'fits-here _ _ _ $step$ _ _ (@item .given .1) .byte',
+    'add-items-3': 'let i = $item$ in omega (arith, i .few, i .inside)',
+    'add-count-3': 'let i = $item$ in omega (arith, i .less, i .inside)',
+    'loop-less-3': '$less3$',
+    'loop-again-3': '$item$',
+    'loop-less-4': '$less4$',
+    'loop-again-4': 'measuring-skipped _ _ _ _ _ (@loop .inv) $step$ _ (@end .given .1)',
     'returns-2': 'measured-bad _ _ _ _ _ (@loop .inv) $step$ _ _ (@number .given .1)'},
-    macros=dict(S, item='measuring-item _ _ _ _ _ (@loop .inv) $step$ _ _ _ (@item .given .1) $len$'))
+    macros=dict(OWN, low='measuring-item _ _ _ _ _ (@loop .inv) $ascii$ _ _ 1 refl $one$',
+                plain='measuring-item _ _ _ _ _ (@loop .inv) $own$ _ _ _ refl $len$',
+                item='measuring-item _ _ _ _ _ (@loop .inv) $step$ _ _ _ (@item .given .1) $len2$'))
 fill('body/write_items', {
     'Inv-loop': 'Writing form s out₀ out at n', 'μ-loop': 'length s - at',
     'loop-holds': 'writing-first _ _ _ (@Start .pre)',
     'same-length': '@loop .inv .size',
     'returns': 'written-end _ _ _ _ _ _ (@loop .inv) $end$',
-    'item-bytes-requires': 'fits-here _ _ _ $step$ _ _ (@item .given .1) .byte',
+    'cast-out': 'omega (arith, itself-ascii $v$ $itself$)',
+    'slice-write-out': 'omega (arith, $room1$, $single$)',
+    'add-n': 'omega (arith, $room1$, $single$)',
+    'loop-less': '$less$',
+    'loop-again': 'writing-item _ _ _ _ _ _ (@loop .inv) $ascii$ _ _ refl _ 1 $one$ (sym (ap (sets (@loop .out) (@loop .n)) (itself-bytes $v$ $form$ $itself$)))',
+    'item-bytes-requires': 'fits-here _ _ _ $own$ _ _ refl .byte',
     'put-requires': '(omega (arith, $four$, $len$), padded-size $bytes$ $four$ _ (@item-bytes .ensures), omega (arith, $room$, $len$))',
-    'add-n': 'omega (arith, $room$, $len$)',
-    'loop-less': 'omega (arith, next-past $form$ $s$ _ $step$, next-room $form$ $s$ _ $step$, ap placeOf (@item .given .1))',
-    'loop-again': 'writing-item _ _ _ _ _ _ (@loop .inv) $step$ _ _ (@item .given .1) _ _ $len$ (@put .ensures ∙ ap (sets (@loop .out) (@loop .n)) (padded-front $bytes$ $four$ _ (@item-bytes .ensures)))',
-    'loop-less-2': 'omega (arith, next-past $form$ $s$ _ $step$, next-room $form$ $s$ _ $step$, ap placeOf (@end .given .1))',
-    'loop-again-2': 'writing-skipped _ _ _ _ _ _ (@loop .inv) $step$ _ (@end .given .1)',
+    'add-n-2': 'omega (arith, $room$, $len$)',
+    'loop-less-2': '$less2$',
+    'loop-again-2': 'writing-item _ _ _ _ _ _ (@loop .inv) $own$ _ _ refl _ _ $len$ (@put .ensures ∙ ap (sets (@loop .out) (@loop .n)) (padded-front $bytes$ $four$ _ (@item-bytes .ensures)))',
+    'item-bytes-requires-2': 'fits-here _ _ _ $step$ _ _ (@item .given .1) .byte',
+    'put-requires-2': '(omega (arith, $four2$, $len2$), padded-size $bytes2$ $four2$ _ (@item-bytes2 .ensures), omega (arith, $room2$, $len2$))',
+    'add-n-3': 'omega (arith, $room2$, $len2$)',
+    'loop-less-3': '$less3$',
+    'loop-again-3': 'writing-item _ _ _ _ _ _ (@loop .inv) $step$ _ _ (@item .given .1) _ _ $len2$ (@put2 .ensures ∙ ap (sets (@loop .out) (@loop .n)) (padded-front $bytes2$ $four2$ _ (@item-bytes2 .ensures)))',
+    'loop-less-4': '$less4$',
+    'loop-again-4': 'writing-skipped _ _ _ _ _ _ (@loop .inv) $step$ _ (@end .given .1)',
     'same-length-2': '@loop .inv .size',
     'returns-2': 'written-bad _ _ _ _ _ _ (@loop .inv) $step$ _ _ (@enum-told2 .given .1)'},
-    macros=dict(S, bytes='(itemBytes $form$ (@item .given .0 .0))', four='(item-four $form$ (@item .given .0 .0))', room='room-here _ _ _ _ _ _ (@loop .inv) $step$ _ _ (@item .given .1)'))
+    macros=dict(OWN, room1='room-here _ _ _ _ _ _ (@loop .inv) $ascii$ _ _ refl',
+                bytes='(itemBytes $form$ $v$)', four='(item-four $form$ $v$)', room='room-here _ _ _ _ _ _ (@loop .inv) $own$ _ _ refl',
+                bytes2='(itemBytes $form$ (@item .given .0 .0))', four2='(item-four $form$ (@item .given .0 .0))', room2='room-here _ _ _ _ _ _ (@loop .inv) $step$ _ _ (@item .given .1)'))
 fill('body/unescape_sound', {
     'returns': '(@refuse2 .ensures ∙ refused-answer _ _ _ _ $wrong$, refused-store _ _ _ _ _ $wrong$)',
     'returns-2': '(@refuse3 .ensures ∙ refused-answer _ _ _ _ $short$, refused-store _ _ _ _ _ $short$)',

@@ -2,21 +2,23 @@
 use Prim.Native.Nat.{ℕ, _+_, _≤_, _<_}
 use mathlib.Core.Path.{_≡_, refl, sym, ap, ap₂, _∙_, subst}
 use mathlib.Core.List.{List, [], _∷_, _++_}
-use mathlib.Core.Bool.{true, false}
+use mathlib.Core.Bool.{Bool, true, false, not}
 use mathlib.Core.Logic.{inl, inr}
 use native.Mathlib.Omega.{arith}
-use lib.Dec.{ltb}
+use lib.Dec.{ltb, eqb}
 use lib.Seq.{length-sets, sets}
 use lib.ListN.{length, length-append}
-use borrow.Author.Tests.{le-ltb, lt-ltb}
+use borrow.Author.Tests.{eq-eqb, le-ltb, lt-ltb, ltb-false, ltb-true, ne-eqb}
 use Rattle.encoding.proofs.Round.{step-is-scalar}
+use Rattle.encoding.proofs.Rows.{encode-1}
 use Rattle.escapes.specs.declared.Escape.{Escape}
 use Rattle.escapes.specs.declared.Escape.the-variants.{Bad, Item, Skipped}
-use Rattle.items.proofs.Items.{Fits, item-fits}
+use Rattle.items.proofs.Begins.{item-low, item-plain}
+use Rattle.items.proofs.Items.{Fits, byte-bytes, item-fits, scalar-bytes}
 use Rattle.items.proofs.Lands.{Lands, item-lands, lands-le, lands-room, placeOf}
-use Rattle.items.specs.Items.{itemBytes, itemOf}
+use Rattle.items.specs.Items.{isBytes, itemBytes, itemOf}
 use Rattle.items.specs.declared.Form.{Form}
-use Rattle.laws.proofs.Cases.{never}
+use Rattle.laws.proofs.Cases.{never, split, split-eq}
 use Rattle.laws.specs.Bools.{pick, same}
 use Rattle.sound.specs.Source.{sourceTest}
 use Rattle.sound.specs.declared.Tested.{Tested}
@@ -24,10 +26,53 @@ use Rattle.sound.specs.declared.Tested.the-variants.{IllFormed, Misplaced, Soun
 use Rattle.text.proofs.Decode.{Step, rest-tail, width-pos}
 use Rattle.text.specs.Utf8.{rest, width}
 use Rattle.unescape.proofs.Stores.{sets-append}
-use Rattle.unescape.specs.Bodies.{Body, Ending, Result, also, bodyOf, fault, judge, measuredOf, noMore, readOf, refuse, refusedAt, turnOf, unescapeOf, whole, writtenOf, wrongCount, wrote}
+use Rattle.unescape.specs.Bodies.{Body, Ending, Result, also, bodyOf, fault, itselfOf, judge, measuredOf, noMore, readOf, refuse, refusedAt, standsOf, turnOf, unescapeOf, whole, writtenOf, wrongCount, wrote}
 use Rattle.unescape.specs.declared.body.Measured.{Measured}
 use Rattle.unescape.specs.declared.body.Measured.the-variants.{Stopped, Whole}
 use Rattle.unescape.specs.declared.body.Unescaped.the-variants.{Wrote}
+
+module _ (form : Form) (v : ℕ) where
+  pub stands-no : v ≡ 0x5c → false ≡ standsOf form v
+  unfolding standsOf
+  stands-no h = rw (eq-eqb v 0x5c h)
+
+  pub stands-low : (v ≡ 0x5c → ⊥) → v ≤ 0x7f → true ≡ standsOf form v
+  unfolding standsOf
+  stands-low h l = rw (ne-eqb v 0x5c h, le-ltb 0x7f v l)
+
+  pub stands-high : (v ≡ 0x5c → ⊥) → 0x7f < v → {b : Bool} → b ≡ isBytes form → not b ≡ standsOf form v
+  unfolding standsOf
+  stands-high h l e = rw (ne-eqb v 0x5c h, lt-ltb 0x7f v l) (ap not e)
+
+  -- .. so it is an item
+  pub item-stands : (cs : List ℕ) (p : ℕ) → standsOf form v ≡ true → Item v p ≡ itemOf form v cs p
+  unfolding standsOf
+  item-stands cs p e =
+      split-eq v 0x5c (λ h. never (let z = stands-no h in cc))
+      (λ h. split (isBytes form)
+      (λ k. split (ltb 0x7f v) (λ l. never (let z = (rw (ne-eqb v 0x5c h, l, k) at e) in cc)) (λ l. item-low form v cs p h k (ltb-false 0x7f v l)))
+      (λ k. item-plain form v cs p h k))
+
+module _ (v : ℕ) where
+  pub itself-no : 0x7f < v → false ≡ itselfOf v
+  unfolding itselfOf
+  itself-no l = rw (lt-ltb 0x7f v l)
+
+  pub itself-low : v ≤ 0x7f → not (eqb v 0x5c) ≡ itselfOf v
+  unfolding itselfOf
+  itself-low l = rw (le-ltb 0x7f v l)
+
+  pub itself-ascii : itselfOf v ≡ true → v ≤ 0x7f
+  itself-ascii e = split (ltb 0x7f v) (λ l. never (let z = itself-no (ltb-true 0x7f v l) in cc)) (λ l. ltb-false 0x7f v l)
+
+  pub itself-stands : (form : Form) → itselfOf v ≡ true → standsOf form v ≡ true
+  itself-stands form e =
+      split-eq v 0x5c (λ h. never (let z = itself-low (itself-ascii e) in let y = eq-eqb v 0x5c h in cc))
+      (λ h. sym (stands-low form v h (itself-ascii e)))
+
+  pub itself-bytes : (form : Form) → itselfOf v ≡ true → itemBytes form v ≡ v ∷ []
+  itself-bytes form e =
+      split (isBytes form) (λ k. byte-bytes form v k) (λ k. scalar-bytes form v k ∙ encode-1 v (itself-ascii e))
 
 pub arrived : (form : Form) (cs : List ℕ) (t : ℕ) → bodyOf form t cs t ≡ bodyOf form 0 cs t
 unfolding bodyOf

@@ -6,7 +6,7 @@ use lib.Dec.{ltb, eqb}
 use lib.ListN.{length}
 use Rattle.escapes.specs.declared.Escape.{Escape}
 use Rattle.escapes.specs.declared.Escape.the-variants.{Bad, Item, Skipped}
-use Rattle.items.specs.Items.{isSingle, itemBytes, itemOf}
+use Rattle.items.specs.Items.{isBytes, isSingle, itemBytes, itemOf}
 use Rattle.items.specs.declared.Form.{Form}
 use Rattle.laws.specs.Bools.{pick}
 use Rattle.sound.specs.Source.{sourceTest}
@@ -17,6 +17,14 @@ use Rattle.unescape.specs.declared.body.Measured.{Measured}
 use Rattle.unescape.specs.declared.body.Measured.the-variants.{Stopped, Whole}
 use Rattle.unescape.specs.declared.body.Unescaped.{Unescaped}
 use Rattle.unescape.specs.declared.body.Unescaped.the-variants.{Refused, Wrote}
+
+-- a scalar that is read as itself in every form: ASCII and no backslash
+unfoldable pub itselfOf : ℕ → Bool
+itselfOf v = pick (ltb 0x7f v) false (not (eqb v 0x5c))
+
+-- a scalar that is read as itself: no backslash, and none above U+007F in bytes
+unfoldable pub standsOf : Form → ℕ → Bool
+standsOf form v = pick (eqb v 0x5c) false (pick (ltb 0x7f v) (not (isBytes form)) true)
 
 -- how the items end: with the body, or at the first of 20 to 25, with its number and span
 pub data Ending : Type 0 where

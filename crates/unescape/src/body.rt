@@ -22,7 +22,7 @@ ghost use lib.ListN.{length, take};
 ghost use Rattle.encoding.specs.Encode.{padded};
 ghost use Rattle.items.specs.Items.{isBytes, itemBytes};
 ghost use Rattle.text.specs.Utf8.{rest};
-ghost use Rattle.unescape.specs.Bodies.{bodyOf, measuredOf, readOf, refusedAt, unescapeOf, writtenOf, wrongCount};
+ghost use Rattle.unescape.specs.Bodies.{bodyOf, itselfOf, measuredOf, readOf, refusedAt, standsOf, unescapeOf, writtenOf, wrongCount};
 
 // How many bytes were written, or why none.
 pub enum Unescaped {
@@ -41,6 +41,29 @@ enum Measured {
         start: usize,
         end: usize,
     },
+}
+
+// ASCII and no backslash: one byte that stands for itself in every form. Asked first, since most scalars are such.
+fn is_itself(v: u32) -> bool
+    ensures { λ r. ⌜ r ≡ itselfOf v ⌝ }
+{
+    if 0x7f < v {
+        return false;
+    }
+    v != 0x5c
+}
+
+// Whether a scalar stands for itself: no backslash, and none above U+007F in bytes. Asked before `item_at`, which is too long to be inlined.
+fn stands(form: Form, v: u32) -> bool
+    ensures { λ r. ⌜ r ≡ standsOf form v ⌝ }
+{
+    if v == 0x5c {
+        return false;
+    }
+    if v <= 0x7f {
+        return true;
+    }
+    !is_bytes(form)
 }
 
 // The bytes of an item.
@@ -65,25 +88,36 @@ fn measure(s: &[u8], form: Form) -> Measured
         let Scalar::One { value, next } = text::scalar_at(s, at) else {
             return Measured::Whole { items, count };
         };
-        match item_at(s, form, value, next) {
-            Escape::Item {
-                value: item,
-                next: end,
-            } => {
-                let encoded = item_bytes(form, item);
-                items = items + 1;
-                count = count + encoded.len;
-                at = end;
-            }
-            Escape::Skipped { next: end } => {
-                at = end;
-            }
-            Escape::Bad { number, next: end } => {
-                return Measured::Stopped {
-                    number,
-                    start: at,
-                    end,
-                };
+        if is_itself(value) {
+            items = items + 1;
+            count = count + 1;
+            at = next;
+        } else if stands(form, value) {
+            let encoded = item_bytes(form, value);
+            items = items + 1;
+            count = count + encoded.len;
+            at = next;
+        } else {
+            match item_at(s, form, value, next) {
+                Escape::Item {
+                    value: item,
+                    next: end,
+                } => {
+                    let encoded = item_bytes(form, item);
+                    items = items + 1;
+                    count = count + encoded.len;
+                    at = end;
+                }
+                Escape::Skipped { next: end } => {
+                    at = end;
+                }
+                Escape::Bad { number, next: end } => {
+                    return Measured::Stopped {
+                        number,
+                        start: at,
+                        end,
+                    };
+                }
             }
         }
     }
@@ -123,23 +157,36 @@ fn write_items(s: &[u8], form: Form, out: &mut [u8])
         let Scalar::One { value, next } = text::scalar_at(s, at) else {
             return;
         };
-        match item_at(s, form, value, next) {
-            Escape::Item {
-                value: item,
-                next: end,
-            } => {
-                let encoded = item_bytes(form, item);
-                let len = encoded.len;
-                let bytes = encoded.bytes;
-                put(out, n, &bytes, len);
-                n = n + len;
-                at = end;
-            }
-            Escape::Skipped { next: end } => {
-                at = end;
-            }
-            Escape::Bad { number: _, next: _ } => {
-                return;
+        if is_itself(value) {
+            out[n] = value as u8;
+            n = n + 1;
+            at = next;
+        } else if stands(form, value) {
+            let encoded = item_bytes(form, value);
+            let len = encoded.len;
+            let bytes = encoded.bytes;
+            put(out, n, &bytes, len);
+            n = n + len;
+            at = next;
+        } else {
+            match item_at(s, form, value, next) {
+                Escape::Item {
+                    value: item,
+                    next: end,
+                } => {
+                    let encoded = item_bytes(form, item);
+                    let len = encoded.len;
+                    let bytes = encoded.bytes;
+                    put(out, n, &bytes, len);
+                    n = n + len;
+                    at = end;
+                }
+                Escape::Skipped { next: end } => {
+                    at = end;
+                }
+                Escape::Bad { number: _, next: _ } => {
+                    return;
+                }
             }
         }
     }

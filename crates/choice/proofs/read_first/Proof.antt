@@ -1,13 +1,15 @@
 use Prim.Native.Nat.{ℕ}
 use mathlib.Core.Path.{sym, ap, _∙_}
+use mathlib.Core.Logic.{⊎-elim}
 use borrow.Author.Needs.{needs}
-use Rattle.choice.proofs.Choice.{first-other, first-str, first-white}
+use Rattle.choice.proofs.Choice.{b-byte, b-end, b-other, b-str, by-mark, first-other, first-str, first-white, slash-comment, slash-end, slash-line, slash-other}
 use Rattle.choice.specs.Rule.{firstOf, noTemplate}
-use Rattle.readers.specs.Readers.{whiteOf}
+use Rattle.readers.specs.Readers.{lineOf, whiteOf}
 use Rattle.readers.specs.Rules.{base}
-use Rattle.text.specs.Utf8.{first, rest}
+use Rattle.text.proofs.Decode.{step-none, step-one}
+use Rattle.text.specs.Utf8.{rest}
 use Rattle.token.specs.Reads.{gotOf}
-use Rattle.token.specs.declared.kind.Kind.the-variants.{Whitespace}
+use Rattle.token.specs.declared.kind.Kind.the-variants.{Comment, Whitespace}
 use Rattle.choice.proofs.read_first.Statement.{statement}
 use Rattle.choice.proofs.read_first.Tie as tie
 
@@ -27,26 +29,60 @@ returns c = c .got .ensures ∙ ap (gotOf Whitespace (c .before .before .before 
 next-str-requires : tie.Need-next-str-requires
 next-str-requires c κs = search needs
 
-read-slash-requires : tie.Need-read-slash-requires
-read-slash-requires c κs = search needs
+returns-2 : tie.Need-returns-2
+returns-2 c = c .next-str .ensures ∙ first-str noTemplate (c .before .before .before .before .before .args .start) (rest (c .before .before .before .before .before .args .s .now) (c .before .before .before .before .before .args .at)) (c .before .before .before .before .before .args .at) (c .before .before .before .before .before .args .value) (c .before .if2 .taken)
 
-read-b-requires : tie.Need-read-b-requires
-read-b-requires c κs = search needs
+scalar-at-requires : tie.Need-scalar-at-requires
+scalar-at-requires c κs = search needs
+
+enum-known-second : tie.Need-enum-known-second
+enum-known-second c = search needs
+
+consume-line-requires : tie.Need-consume-line-requires
+consume-line-requires c κs = search needs
+
+got-requires-2 : tie.Need-got-requires-2
+got-requires-2 c κs = search needs
+
+returns-3 : tie.Need-returns-3
+unfolding lineOf
+returns-3 c = c .got2 .ensures ∙ ap (gotOf Comment (c .before .before .before .before .before .before .before .before .before .before .before .before .args .start)) (c .before .consume-line .ensures) ∙ slash-line noTemplate (c .before .before .before .before .before .before .before .before .before .before .before .before .args .start) (c .before .before .before .before .before .before .before .before .before .before .before .before .args .s .now) (c .before .before .before .before .before .before .before .before .before .before .before .before .args .at) (c .before .before .before .before .second .given .0 .0) (c .before .before .before .before .second .given .0 .1 .0) (step-one (c .before .before .before .before .before .before .before .before .before .before .before .before .args .s .now) (c .before .before .before .before .before .before .before .before .before .before .before .before .args .at) (c .before .before .before .before .second .given .0 .0) (c .before .before .before .before .second .given .0 .1 .0) (sym (c .before .before .before .before .before .before .scalar-at .ensures) ∙ c .before .before .before .before .second .given .1)) (c .before .before .if4 .taken) ∙ sym (ap (λ (x : ℕ). firstOf base noTemplate x (c .before .before .before .before .before .before .before .before .before .before .before .before .args .start) (rest (c .before .before .before .before .before .before .before .before .before .before .before .before .args .s .now) (c .before .before .before .before .before .before .before .before .before .before .before .before .args .at)) (c .before .before .before .before .before .before .before .before .before .before .before .before .args .at)) (c .before .before .before .before .before .before .before .if3 .taken))
+
+next-multiline-comment-requires : tie.Need-next-multiline-comment-requires
+next-multiline-comment-requires c κs = search needs
+
+returns-4 : tie.Need-returns-4
+returns-4 c = c .next-multiline-comment .ensures ∙ slash-comment noTemplate (c .before .before .before .before .before .before .before .before .before .before .before .before .args .start) (c .before .before .before .before .before .before .before .before .before .before .before .before .args .s .now) (c .before .before .before .before .before .before .before .before .before .before .before .before .args .at) (c .before .before .before .before .second .given .0 .0) (c .before .before .before .before .second .given .0 .1 .0) (step-one (c .before .before .before .before .before .before .before .before .before .before .before .before .args .s .now) (c .before .before .before .before .before .before .before .before .before .before .before .before .args .at) (c .before .before .before .before .second .given .0 .0) (c .before .before .before .before .second .given .0 .1 .0) (sym (c .before .before .before .before .before .before .scalar-at .ensures) ∙ c .before .before .before .before .second .given .1)) (c .before .before .if4 .left) (c .before .if5 .taken) ∙ sym (ap (λ (x : ℕ). firstOf base noTemplate x (c .before .before .before .before .before .before .before .before .before .before .before .before .args .start) (rest (c .before .before .before .before .before .before .before .before .before .before .before .before .args .s .now) (c .before .before .before .before .before .before .before .before .before .before .before .before .args .at)) (c .before .before .before .before .before .before .before .before .before .before .before .before .args .at)) (c .before .before .before .before .before .before .before .if3 .taken))
+
+enum-told : tie.Need-enum-told
+enum-told c = search needs
+
+scalar-at-requires-2 : tie.Need-scalar-at-requires-2
+scalar-at-requires-2 c κs = search needs
+
+enum-known-second-2 : tie.Need-enum-known-second-2
+enum-known-second-2 c = search needs
+
+next-lit-byte-requires : tie.Need-next-lit-byte-requires
+next-lit-byte-requires c κs = search needs
+
+returns-5 : tie.Need-returns-5
+returns-5 c = c .next-lit-byte .ensures ∙ b-byte noTemplate (c .before .before .before .before .before .before .before .before .before .before .before .before .args .start) (c .before .before .before .before .before .before .before .before .before .before .before .before .args .s .now) (c .before .before .before .before .before .before .before .before .before .before .before .before .args .at) (c .before .before .before .second2 .given .0 .0) (c .before .before .before .second2 .given .0 .1 .0) (step-one (c .before .before .before .before .before .before .before .before .before .before .before .before .args .s .now) (c .before .before .before .before .before .before .before .before .before .before .before .before .args .at) (c .before .before .before .second2 .given .0 .0) (c .before .before .before .second2 .given .0 .1 .0) (sym (c .before .before .before .before .before .scalar-at2 .ensures) ∙ c .before .before .before .second2 .given .1)) (c .before .if7 .taken) ∙ sym (ap (λ (x : ℕ). firstOf base noTemplate x (c .before .before .before .before .before .before .before .before .before .before .before .before .args .start) (rest (c .before .before .before .before .before .before .before .before .before .before .before .before .args .s .now) (c .before .before .before .before .before .before .before .before .before .before .before .before .args .at)) (c .before .before .before .before .before .before .before .before .before .before .before .before .args .at)) (c .before .before .before .before .before .before .if6 .taken))
+
+next-str-requires-2 : tie.Need-next-str-requires-2
+next-str-requires-2 c κs = search needs
+
+returns-6 : tie.Need-returns-6
+returns-6 c = c .next-str2 .ensures ∙ b-str noTemplate (c .before .before .before .before .before .before .before .before .before .before .before .before .before .args .start) (c .before .before .before .before .before .before .before .before .before .before .before .before .before .args .s .now) (c .before .before .before .before .before .before .before .before .before .before .before .before .before .args .at) (c .before .before .before .before .second2 .given .0 .0) (c .before .before .before .before .second2 .given .0 .1 .0) (step-one (c .before .before .before .before .before .before .before .before .before .before .before .before .before .args .s .now) (c .before .before .before .before .before .before .before .before .before .before .before .before .before .args .at) (c .before .before .before .before .second2 .given .0 .0) (c .before .before .before .before .second2 .given .0 .1 .0) (sym (c .before .before .before .before .before .before .scalar-at2 .ensures) ∙ c .before .before .before .before .second2 .given .1)) (c .before .before .if7 .left) (c .before .if8 .taken) ∙ sym (ap (λ (x : ℕ). firstOf base noTemplate x (c .before .before .before .before .before .before .before .before .before .before .before .before .before .args .start) (rest (c .before .before .before .before .before .before .before .before .before .before .before .before .before .args .s .now) (c .before .before .before .before .before .before .before .before .before .before .before .before .before .args .at)) (c .before .before .before .before .before .before .before .before .before .before .before .before .before .args .at)) (c .before .before .before .before .before .before .before .if6 .taken))
+
+enum-told-2 : tie.Need-enum-told-2
+enum-told-2 c = search needs
 
 read-other-requires : tie.Need-read-other-requires
 read-other-requires c κs = search needs
 
-returns-2 : tie.Need-returns-2
-returns-2 c = c .next-str .ensures ∙ first-str noTemplate (c .before .before .before .before .before .args .start) (rest (c .before .before .before .before .before .args .s .now) (c .before .before .before .before .before .args .at)) (c .before .before .before .before .before .args .at) (c .before .before .before .before .before .args .value) (c .before .match .keys1)
-
-returns-3 : tie.Need-returns-3
-returns-3 c = c .read-slash .ensures ∙ sym (ap (λ (x : ℕ). firstOf base noTemplate x (c .before .before .before .before .before .args .start) (rest (c .before .before .before .before .before .args .s .now) (c .before .before .before .before .before .args .at)) (c .before .before .before .before .before .args .at)) (c .before .match .keys2))
-
-returns-4 : tie.Need-returns-4
-returns-4 c = c .read-b .ensures ∙ sym (ap (λ (x : ℕ). firstOf base noTemplate x (c .before .before .before .before .before .args .start) (rest (c .before .before .before .before .before .args .s .now) (c .before .before .before .before .before .args .at)) (c .before .before .before .before .before .args .at)) (c .before .match .keys3))
-
-returns-5 : tie.Need-returns-5
-returns-5 c = c .read-other .ensures ∙ first-other noTemplate (c .before .before .before .before .before .args .start) (rest (c .before .before .before .before .before .args .s .now) (c .before .before .before .before .before .args .at)) (c .before .before .before .before .before .args .at) (c .before .before .before .before .before .args .value) (sym (c .before .before .before .is-whitespace .ensures) ∙ c .before .before .if1 .left) (c .before .match .rest .0 .0 .1) (c .before .match .rest .0 .1) (c .before .match .rest .1)
+returns-7 : tie.Need-returns-7
+returns-7 c = c .read-other .ensures ∙ ⊎-elim (λ w. by-mark noTemplate (c .before .before .before .before .before .before .before .args .start) (rest (c .before .before .before .before .before .before .before .args .s .now) (c .before .before .before .before .before .before .before .args .at)) (c .before .before .before .before .before .before .before .args .at) (c .before .before .before .before .before .before .before .args .value) 98 (w .0 .taken) (b-other noTemplate (c .before .before .before .before .before .before .before .args .start) (c .before .before .before .before .before .before .before .args .s .now) (c .before .before .before .before .before .before .before .args .at) _ _ (step-one (c .before .before .before .before .before .before .before .args .s .now) (c .before .before .before .before .before .before .before .args .at) _ _ (sym (w .1 .ensures) ∙ w .3 .given .1)) (w .5 .left) (w .6 .left))) (λ x. ⊎-elim (λ w. by-mark noTemplate (c .before .before .before .before .before .before .before .args .start) (rest (c .before .before .before .before .before .before .before .args .s .now) (c .before .before .before .before .before .before .before .args .at)) (c .before .before .before .before .before .before .before .args .at) (c .before .before .before .before .before .before .before .args .value) 98 (w .0 .taken) (b-end noTemplate (c .before .before .before .before .before .before .before .args .start) (c .before .before .before .before .before .before .before .args .s .now) (c .before .before .before .before .before .before .before .args .at) (step-none (c .before .before .before .before .before .before .before .args .s .now) (c .before .before .before .before .before .before .before .args .at) (sym (w .1 .ensures) ∙ w .3 .given .1)))) (λ no-b. ⊎-elim (λ w. by-mark noTemplate (c .before .before .before .before .before .before .before .args .start) (rest (c .before .before .before .before .before .before .before .args .s .now) (c .before .before .before .before .before .before .before .args .at)) (c .before .before .before .before .before .before .before .args .at) (c .before .before .before .before .before .before .before .args .value) 47 (w .0 .taken) (slash-other noTemplate (c .before .before .before .before .before .before .before .args .start) (c .before .before .before .before .before .before .before .args .s .now) (c .before .before .before .before .before .before .before .args .at) _ _ (step-one (c .before .before .before .before .before .before .before .args .s .now) (c .before .before .before .before .before .before .before .args .at) _ _ (sym (w .1 .ensures) ∙ w .3 .given .1)) (w .5 .left) (w .6 .left))) (λ x. ⊎-elim (λ w. by-mark noTemplate (c .before .before .before .before .before .before .before .args .start) (rest (c .before .before .before .before .before .before .before .args .s .now) (c .before .before .before .before .before .before .before .args .at)) (c .before .before .before .before .before .before .before .args .at) (c .before .before .before .before .before .before .before .args .value) 47 (w .0 .taken) (slash-end noTemplate (c .before .before .before .before .before .before .before .args .start) (c .before .before .before .before .before .before .before .args .s .now) (c .before .before .before .before .before .before .before .args .at) (step-none (c .before .before .before .before .before .before .before .args .s .now) (c .before .before .before .before .before .before .before .args .at) (sym (w .1 .ensures) ∙ w .3 .given .1)))) (λ no-slash. first-other noTemplate (c .before .before .before .before .before .before .before .args .start) (rest (c .before .before .before .before .before .before .before .args .s .now) (c .before .before .before .before .before .before .before .args .at)) (c .before .before .before .before .before .before .before .args .at) (c .before .before .before .before .before .before .before .args .value) (sym (c .before .before .before .before .before .is-whitespace .ensures) ∙ c .before .before .before .before .if1 .left) (c .before .before .before .if2 .left) (no-slash .left) (no-b .left)) x) (c .before .before .if3 .came)) x) (c .before .if6 .came)
 
 pub read-first-spec : {M : Type 1} → statement M
 read-first-spec =
@@ -57,10 +93,21 @@ read-first-spec =
     got-requires
     returns
     next-str-requires
-    read-slash-requires
-    read-b-requires
-    read-other-requires
     returns-2
+    scalar-at-requires
+    enum-known-second
+    consume-line-requires
+    got-requires-2
     returns-3
+    next-multiline-comment-requires
     returns-4
-    returns-5)
+    enum-told
+    scalar-at-requires-2
+    enum-known-second-2
+    next-lit-byte-requires
+    returns-5
+    next-str-requires-2
+    returns-6
+    enum-told-2
+    read-other-requires
+    returns-7)

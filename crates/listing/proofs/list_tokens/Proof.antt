@@ -17,8 +17,8 @@ abbrev μ-loop : tie.MeasureT-loop
 loop-holds : tie.Need-loop-holds Inv-loop μ-loop
 loop-holds c = head-first _ _
 
-next-requires : tie.Need-next-requires Inv-loop μ-loop
-next-requires c κs = search needs
+next-token-requires : tie.Need-next-token-requires Inv-loop μ-loop
+next-token-requires c κs = search needs
 
 enum-known-refusal : tie.Need-enum-known-refusal Inv-loop μ-loop
 enum-known-refusal c = search needs
@@ -27,7 +27,7 @@ same-length : tie.Need-same-length Inv-loop μ-loop
 same-length c = c .before .before .before .before .loop .inv .same
 
 returns : tie.Need-returns Inv-loop μ-loop
-returns c = list-halt (c .before .before .before .before .before .before .before .args .s .now) (c .before .before .before .before .before .before .before .args .store .now) (c .before .before .before .before .loop .store) (c .before .before .before .before .loop .at) (c .before .before .before .before .loop .n) (c .before .before .before .before .loop .count) (c .before .before .before .before .loop .inv) (c .before .before .before .next .result) (c .before .before .before .next .ensures) (c .before .refusal .given .0 .0) (c .before .refusal .given .1)
+returns c = list-halt (c .before .before .before .before .before .before .before .args .s .now) (c .before .before .before .before .before .before .before .args .store .now) (c .before .before .before .before .loop .store) (c .before .before .before .before .loop .at) (c .before .before .before .before .loop .n) (c .before .before .before .before .loop .count) (c .before .before .before .before .loop .inv) (c .before .before .before .next-token .result) (c .before .before .before .next-token .ensures) (c .before .refusal .given .0 .0) (c .before .refusal .given .1)
 
 enum-known-token : tie.Need-enum-known-token Inv-loop μ-loop
 enum-known-token c = search needs
@@ -36,7 +36,7 @@ same-length-2 : tie.Need-same-length-2 Inv-loop μ-loop
 same-length-2 c = c .before .before .before .before .before .before .loop .inv .same
 
 returns-2 : tie.Need-returns-2 Inv-loop μ-loop
-returns-2 c = list-fin (c .before .before .before .before .before .before .before .before .before .args .s .now) (c .before .before .before .before .before .before .before .before .before .args .store .now) (c .before .before .before .before .before .before .loop .store) (c .before .before .before .before .before .before .loop .at) (c .before .before .before .before .before .before .loop .n) (c .before .before .before .before .before .before .loop .count) (c .before .before .before .before .before .before .loop .inv) (c .before .before .before .before .before .next .result) (c .before .before .before .before .before .next .ensures) (c .before .before .before .token .given .0 .0) (c .before .before .before .token .given .1) (c .if1 .taken)
+returns-2 c = list-fin (c .before .before .before .before .before .before .before .before .before .args .s .now) (c .before .before .before .before .before .before .before .before .before .args .store .now) (c .before .before .before .before .before .before .loop .store) (c .before .before .before .before .before .before .loop .at) (c .before .before .before .before .before .before .loop .n) (c .before .before .before .before .before .before .loop .count) (c .before .before .before .before .before .before .loop .inv) (c .before .before .before .before .before .next-token .result) (c .before .before .before .before .before .next-token .ensures) (c .before .before .before .token .given .0 .0) (c .before .before .before .token .given .1) (c .if1 .taken)
 
 sub-if2 : tie.Need-sub-if2 Inv-loop μ-loop
 sub-if2 c = c .before .before .before .before .before .before .loop .inv .in-store
@@ -48,7 +48,7 @@ same-length-3 : tie.Need-same-length-3 Inv-loop μ-loop
 same-length-3 c = c .before .before .before .before .before .before .before .before .loop .inv .same
 
 returns-3 : tie.Need-returns-3 Inv-loop μ-loop
-returns-3 c = let w = list-short (c .before .before .before .before .before .before .before .before .before .before .before .args .s .now) (c .before .before .before .before .before .before .before .before .before .before .before .args .store .now) (c .before .before .before .before .before .before .before .before .loop .store) (c .before .before .before .before .before .before .before .before .loop .at) (c .before .before .before .before .before .before .before .before .loop .n) (c .before .before .before .before .before .before .before .before .loop .count) (c .before .before .before .before .before .before .before .before .loop .inv) (c .before .before .before .before .before .before .before .next .result) (c .before .before .before .before .before .before .before .next .ensures) (c .before .before .before .before .before .token .given .0 .0) (c .before .before .before .before .before .token .given .1) (c .before .before .if1 .left) (c .before .if2 .taken) in (c .no-room .ensures ∙ w .0, w .1)
+returns-3 c = let w = list-short (c .before .before .before .before .before .before .before .before .before .before .before .args .s .now) (c .before .before .before .before .before .before .before .before .before .before .before .args .store .now) (c .before .before .before .before .before .before .before .before .loop .store) (c .before .before .before .before .before .before .before .before .loop .at) (c .before .before .before .before .before .before .before .before .loop .n) (c .before .before .before .before .before .before .before .before .loop .count) (c .before .before .before .before .before .before .before .before .loop .inv) (c .before .before .before .before .before .before .before .next-token .result) (c .before .before .before .before .before .before .before .next-token .ensures) (c .before .before .before .before .before .token .given .0 .0) (c .before .before .before .before .before .token .given .1) (c .before .before .if1 .left) (c .before .if2 .taken) in (c .no-room .ensures ∙ w .0, w .1)
 
 number-of-requires : tie.Need-number-of-requires Inv-loop μ-loop
 number-of-requires c κs = search needs
@@ -72,7 +72,7 @@ slice-write-store-2 : tie.Need-slice-write-store-2 Inv-loop μ-loop
 slice-write-store-2 c = simp length-set (omega arith)
 
 cast-store-2 : tie.Need-cast-store-2 Inv-loop μ-loop
-cast-store-2 c = omega (arith, list-room (c .before .before .before .before .before .before .before .before .before .before .before .args .s .now) (c .before .before .before .before .before .before .before .before .before .before .before .args .store .now) (c .before .before .before .before .before .before .before .before .loop .store) (c .before .before .before .before .before .before .before .before .loop .at) (c .before .before .before .before .before .before .before .before .loop .n) (c .before .before .before .before .before .before .before .before .loop .count) (c .before .before .before .before .before .before .before .before .loop .inv) (c .before .before .before .before .before .before .before .next .result) (c .before .before .before .before .before .before .before .next .ensures) (c .before .before .before .before .before .token .given .0 .0) (c .before .before .before .before .before .token .given .1) (c .before .before .if1 .left), c .before .before .before .before .before .before .before .before .before .before .before .pre)
+cast-store-2 c = omega (arith, list-room (c .before .before .before .before .before .before .before .before .before .before .before .args .s .now) (c .before .before .before .before .before .before .before .before .before .before .before .args .store .now) (c .before .before .before .before .before .before .before .before .loop .store) (c .before .before .before .before .before .before .before .before .loop .at) (c .before .before .before .before .before .before .before .before .loop .n) (c .before .before .before .before .before .before .before .before .loop .count) (c .before .before .before .before .before .before .before .before .loop .inv) (c .before .before .before .before .before .before .before .next-token .result) (c .before .before .before .before .before .before .before .next-token .ensures) (c .before .before .before .before .before .token .given .0 .0) (c .before .before .before .before .before .token .given .1) (c .before .before .if1 .left), c .before .before .before .before .before .before .before .before .before .before .before .pre)
 
 add-store-2 : tie.Need-add-store-2 Inv-loop μ-loop
 add-store-2 c = omega (arith, c .before .before .before .before .before .before .before .before .loop .inv, c .before .before .before .before .before .before .before .before .before .before .before .pre, c .before .before .before .before .before .before .before .before .before .before .before .good)
@@ -90,10 +90,10 @@ add-count : tie.Need-add-count Inv-loop μ-loop
 add-count c = omega (arith, c .before .before .before .before .before .before .before .before .loop .inv, c .before .before .before .before .before .before .before .before .before .before .before .pre, c .before .before .before .before .before .before .before .before .before .before .before .good)
 
 loop-less : tie.Need-loop-less Inv-loop μ-loop
-loop-less c = omega (arith, list-past (c .before .before .before .before .before .before .before .before .before .before .before .args .s .now) (c .before .before .before .before .before .before .before .before .before .before .before .args .store .now) (c .before .before .before .before .before .before .before .before .loop .store) (c .before .before .before .before .before .before .before .before .loop .at) (c .before .before .before .before .before .before .before .before .loop .n) (c .before .before .before .before .before .before .before .before .loop .count) (c .before .before .before .before .before .before .before .before .loop .inv) (c .before .before .before .before .before .before .before .next .result) (c .before .before .before .before .before .before .before .next .ensures) (c .before .before .before .before .before .token .given .0 .0) (c .before .before .before .before .before .token .given .1) (c .before .before .if1 .left), list-room (c .before .before .before .before .before .before .before .before .before .before .before .args .s .now) (c .before .before .before .before .before .before .before .before .before .before .before .args .store .now) (c .before .before .before .before .before .before .before .before .loop .store) (c .before .before .before .before .before .before .before .before .loop .at) (c .before .before .before .before .before .before .before .before .loop .n) (c .before .before .before .before .before .before .before .before .loop .count) (c .before .before .before .before .before .before .before .before .loop .inv) (c .before .before .before .before .before .before .before .next .result) (c .before .before .before .before .before .before .before .next .ensures) (c .before .before .before .before .before .token .given .0 .0) (c .before .before .before .before .before .token .given .1) (c .before .before .if1 .left))
+loop-less c = omega (arith, list-past (c .before .before .before .before .before .before .before .before .before .before .before .args .s .now) (c .before .before .before .before .before .before .before .before .before .before .before .args .store .now) (c .before .before .before .before .before .before .before .before .loop .store) (c .before .before .before .before .before .before .before .before .loop .at) (c .before .before .before .before .before .before .before .before .loop .n) (c .before .before .before .before .before .before .before .before .loop .count) (c .before .before .before .before .before .before .before .before .loop .inv) (c .before .before .before .before .before .before .before .next-token .result) (c .before .before .before .before .before .before .before .next-token .ensures) (c .before .before .before .before .before .token .given .0 .0) (c .before .before .before .before .before .token .given .1) (c .before .before .if1 .left), list-room (c .before .before .before .before .before .before .before .before .before .before .before .args .s .now) (c .before .before .before .before .before .before .before .before .before .before .before .args .store .now) (c .before .before .before .before .before .before .before .before .loop .store) (c .before .before .before .before .before .before .before .before .loop .at) (c .before .before .before .before .before .before .before .before .loop .n) (c .before .before .before .before .before .before .before .before .loop .count) (c .before .before .before .before .before .before .before .before .loop .inv) (c .before .before .before .before .before .before .before .next-token .result) (c .before .before .before .before .before .before .before .next-token .ensures) (c .before .before .before .before .before .token .given .0 .0) (c .before .before .before .before .before .token .given .1) (c .before .before .if1 .left))
 
 loop-again : tie.Need-loop-again Inv-loop μ-loop
-loop-again c = subst (λ (x : ℕ). Head (c .before .before .before .before .before .before .before .before .before .before .before .args .s .now) (c .before .before .before .before .before .before .before .before .before .before .before .args .store .now) (set (set (set (c .before .before .before .before .before .before .before .before .loop .store) (c .before .before .before .before .before .before .before .before .loop .n) x) ((c .before .before .before .before .before .before .before .before .loop .n) + 1) (c .before .before .before .before .before .before .before .before .loop .at)) ((c .before .before .before .before .before .before .before .before .loop .n) + 2) (c .before .before .before .before .before .token .given .0 .0 .span .end)) (c .before .before .before .before .before .token .given .0 .0 .span .end) ((c .before .before .before .before .before .before .before .before .loop .n) + 3) ((c .before .before .before .before .before .before .before .before .loop .count) + 1)) (sym (c .number-of .ensures)) (list-more (c .before .before .before .before .before .before .before .before .before .before .before .args .s .now) (c .before .before .before .before .before .before .before .before .before .before .before .args .store .now) (c .before .before .before .before .before .before .before .before .loop .store) (c .before .before .before .before .before .before .before .before .loop .at) (c .before .before .before .before .before .before .before .before .loop .n) (c .before .before .before .before .before .before .before .before .loop .count) (c .before .before .before .before .before .before .before .before .loop .inv) (c .before .before .before .before .before .before .before .next .result) (c .before .before .before .before .before .before .before .next .ensures) (c .before .before .before .before .before .token .given .0 .0) (c .before .before .before .before .before .token .given .1) (c .before .before .if1 .left) (c .before .if2 .left))
+loop-again c = subst (λ (x : ℕ). Head (c .before .before .before .before .before .before .before .before .before .before .before .args .s .now) (c .before .before .before .before .before .before .before .before .before .before .before .args .store .now) (set (set (set (c .before .before .before .before .before .before .before .before .loop .store) (c .before .before .before .before .before .before .before .before .loop .n) x) ((c .before .before .before .before .before .before .before .before .loop .n) + 1) (c .before .before .before .before .before .before .before .before .loop .at)) ((c .before .before .before .before .before .before .before .before .loop .n) + 2) (c .before .before .before .before .before .token .given .0 .0 .span .end)) (c .before .before .before .before .before .token .given .0 .0 .span .end) ((c .before .before .before .before .before .before .before .before .loop .n) + 3) ((c .before .before .before .before .before .before .before .before .loop .count) + 1)) (sym (c .number-of .ensures)) (list-more (c .before .before .before .before .before .before .before .before .before .before .before .args .s .now) (c .before .before .before .before .before .before .before .before .before .before .before .args .store .now) (c .before .before .before .before .before .before .before .before .loop .store) (c .before .before .before .before .before .before .before .before .loop .at) (c .before .before .before .before .before .before .before .before .loop .n) (c .before .before .before .before .before .before .before .before .loop .count) (c .before .before .before .before .before .before .before .before .loop .inv) (c .before .before .before .before .before .before .before .next-token .result) (c .before .before .before .before .before .before .before .next-token .ensures) (c .before .before .before .before .before .token .given .0 .0) (c .before .before .before .before .before .token .given .1) (c .before .before .if1 .left) (c .before .if2 .left))
 
 pub list-tokens-spec : {M : Type 1} → statement M
 list-tokens-spec =
@@ -102,7 +102,7 @@ list-tokens-spec =
     Inv-loop
     μ-loop
     loop-holds
-    next-requires
+    next-token-requires
     enum-known-refusal
     same-length
     returns

@@ -1,0 +1,20 @@
+use mathlib.Core.Path.{_∙_}
+use borrow.Author.Needs.{needs}
+use Rattle.lexer.proofs.Sources.{later-next}
+use Rattle.listing.proofs.next_token.Statement.{statement}
+use Rattle.listing.proofs.next_token.Tie as tie
+
+next-requires : tie.Need-next-requires
+next-requires c κs = search needs
+
+returns : tie.Need-returns
+returns c = c .next .ensures
+
+later-requires : tie.Need-later-requires
+later-requires c κs = search needs
+
+returns-2 : tie.Need-returns-2
+returns-2 c = c .later .ensures ∙ later-next (c .before .before .before .args .s .now) (c .before .before .before .args .at) (c .before .if1 .left)
+
+pub next-token-spec : {M : Type 1} → statement M
+next-token-spec = tie.close (tie.spec next-requires returns later-requires returns-2)
