@@ -13,9 +13,9 @@ fill('source/close_span', {
     'returns-3': '@refused .ensures ∙ close-empty $told$ (@if1 .left)'}, macros=C)
 fill('source/next', {
     'returns': '@got .ensures ∙ ap (gotOf Shebang 0) (@consume-line .ensures) ∙ next-shebang $s$ $at$ (@if1 .taken) (sym (@is-shebang .ensures) ∙ @if2 .taken)',
-    'returns-2': '@close-span .ensures ∙ ap (closeSpan (length $s$)) (@read-token .ensures) ∙ next-token $s$ $at$ (⊎-elim (λ w. no-shebang $s$ $at$ (w .0 .taken) (sym (w .1 .ensures) ∙ w .2 .left)) (λ w. ap (λ (b : Bool). both b (isShebang (rest $s$ $at$))) (ne-eqb $at$ 0 (w .left))) (@if1 .came))'}, macros=S)
+    'returns-2': '@later .ensures ∙ sym (later-is $s$ $at$) ∙ next-token $s$ $at$ (⊎-elim (λ w. no-shebang $s$ $at$ (w .0 .taken) (sym (w .1 .ensures) ∙ w .2 .left)) (λ w. ap (λ (b : Bool). both b (isShebang (rest $s$ $at$))) (ne-eqb $at$ 0 (w .left))) (@if1 .came))'}, macros=S)
 fill('source/later', {
-    'returns': '@close-span .ensures ∙ ap (closeSpan (length $s$)) (@read-token .ensures) ∙ next-token $s$ $at$ (ap (λ (b : Bool). both b (isShebang (rest $s$ $at$))) (ne-eqb $at$ 0 (λ e. omega (arith, e, @Start .pre))))'}, macros=S)
+    'returns': '@close-span .ensures ∙ ap (closeSpan (length $s$)) (@read-token .ensures) ∙ later-is $s$ $at$'}, macros=S)
 fill('source/read', {
     'returns': '@next .ensures ∙ sym (read-case $s$ $at$ Sound (sym (@enum-told .given .1) ∙ @test-position .ensures))',
     'returns-2': '@refused .ensures ∙ sym (read-case $s$ $at$ TooLong (sym (@enum-told2 .given .1) ∙ @test-position .ensures))',

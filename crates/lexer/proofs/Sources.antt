@@ -1,8 +1,8 @@
 -- The shebang, refusal 12's span and the tests before reading, as the code makes them. Assumes nothing.
-use Prim.Native.Nat.{ℕ, _+_}
+use Prim.Native.Nat.{ℕ, _+_, _<_}
 use mathlib.Core.Path.{_≡_, refl, sym, ap, _∙_, subst}
 use mathlib.Core.List.{List, [], _∷_}
-use mathlib.Core.Bool.{true, false}
+use mathlib.Core.Bool.{Bool, true, false}
 use native.Mathlib.Omega.{arith}
 use lib.Dec.{eqb}
 use lib.ListN.{length}
@@ -10,7 +10,7 @@ use borrow.Author.Tests.{eq-eqb, eqb-true, ne-eqb}
 use Rattle.laws.proofs.Cases.{both-false, both-inv, never}
 use Rattle.laws.specs.Bools.{both}
 use Rattle.lexer.specs.Body.{tokenOf}
-use Rattle.lexer.specs.Next.{closeSpan, isShebang, nextAt, nextOf, readAt, shebangOf}
+use Rattle.lexer.specs.Next.{closeSpan, isShebang, laterAt, nextAt, nextOf, readAt, shebangOf}
 use Rattle.readers.specs.Readers.{inLine, lineOf, run}
 use Rattle.readers.specs.Rules.{base}
 use Rattle.text.proofs.Decode.{Step, rest-tail}
@@ -80,3 +80,11 @@ pub read-case : (s : List ℕ) (at : ℕ) (q : Tested) → q ≡ positionTest s 
     → readAt s at ≡ elim q [ Sound ↦ nextAt s at | TooLong ↦ refusedOf 1 0 0 0 | IllFormed p ↦ refusedOf 2 p p p | Misplaced p ↦ refusedOf 4 p p p ]
 unfolding readAt
 read-case s at q e = rw (← e, readAt)
+
+pub later-is : (s : List ℕ) (at : ℕ) → closeSpan (length s) (tokenOf base 64 (rest s at) at) ≡ laterAt s at
+unfolding laterAt
+later-is s at = refl
+
+-- behind the first place there is no shebang
+pub next-later : (s : List ℕ) (at : ℕ) → 0 < at → laterAt s at ≡ nextAt s at
+next-later s at l = sym (later-is s at) ∙ next-token s at (ap (λ (b : Bool). both b (isShebang (rest s at))) (ne-eqb at 0 (λ e. omega (arith, e, l))))

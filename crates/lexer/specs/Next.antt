@@ -34,6 +34,10 @@ closeSpan n (Refused r) = pick (eqb (r .number) 12) (refusedOf 12 (r .span .star
 unfoldable pub nextOf : Rules → ℕ → List ℕ → ℕ → Read
 nextOf R n cs p = pick (both (eqb p 0) (isShebang cs)) (shebangOf R cs p) (closeSpan n (tokenOf R 64 cs p))
 
+-- .. where it is no shebang
+unfoldable pub laterAt : List ℕ → ℕ → Read
+laterAt s at = closeSpan (length s) (tokenOf base 64 (rest s at) at)
+
 unfoldable pub nextAt : List ℕ → ℕ → Read
 nextAt s at = nextOf base (length s) (rest s at) at
 

@@ -4,9 +4,8 @@ use text::Scalar;
 use text::Tested;
 use token::Kind;
 use token::Read;
-ghost use Prim.Native.Nat.{_<_};
 ghost use mathlib.Core.Path.{_≡_};
-ghost use Rattle.lexer.specs.Next.{closeSpan, isShebang, nextAt, readAt};
+ghost use Rattle.lexer.specs.Next.{closeSpan, isShebang, laterAt, nextAt, readAt};
 ghost use Rattle.text.specs.Utf8.{rest};
 
 fn is_shebang(s: &[u8]) -> bool
@@ -42,6 +41,13 @@ fn close_span(end: usize, r: Read) -> Read
     }
 }
 
+// The token at a place where no shebang can stand: behind the first. Short, so that the compiler inlines it where many tokens are read.
+pub fn later(s: &[u8], at: usize) -> Read
+    ensures { λ r. ⌜ r ≡ laterAt (now (s .entry)) at ⌝ }
+{
+    close_span(s.len(), read_token(s, at, 64))
+}
+
 // For a caller that has tested the source once: total on every slice and position.
 pub fn next(s: &[u8], at: usize) -> Read
     ensures { λ r. ⌜ r ≡ nextAt (now (s .entry)) at ⌝ }
@@ -51,15 +57,7 @@ pub fn next(s: &[u8], at: usize) -> Read
             return token::got(Kind::Shebang, 0, readers::consume_line(s, 2));
         }
     }
-    close_span(s.len(), read_token(s, at, 64))
-}
-
-// The same behind the source's first place, where no shebang stands: short, so that the compiler inlines it where many tokens are read.
-pub fn later(s: &[u8], at: usize) -> Read
-    requires { ⌜ 0 < at ⌝ }
-    ensures { λ r. ⌜ r ≡ nextAt (now (s .entry)) at ⌝ }
-{
-    close_span(s.len(), read_token(s, at, 64))
+    later(s, at)
 }
 
 pub fn read(s: &[u8], at: usize) -> Read

@@ -3,8 +3,7 @@ M = {'s': '(@Start .args .s .now)', 'o0': '(@Start .args .store .now)', 'o': '(@
      'k': '(@token .given .0 .0) (@token .given .1)', 'e': '(@token .given .0 .0 .span .end)'}
 fill('token_at', {
     'returns': '@next .ensures ∙ sym (ap (nextAt $s$) (@if1 .taken))',
-    'later-requires': 'omega arith',
-    'returns-2': '@later .ensures'}, macros={'s': '(@Start .args .s .now)'})
+    'returns-2': '@later .ensures ∙ next-later $s$ (@Start .args .at) (omega arith)'}, macros={'s': '(@Start .args .s .now)'})
 far = 'omega (arith, @loop .inv, @Start .pre, @Start .good)'
 fill('list_tokens', {
     'Inv-loop': 'Head s store₀ store at n count', 'μ-loop': 'length s - at',

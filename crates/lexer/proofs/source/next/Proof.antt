@@ -2,11 +2,10 @@ use mathlib.Core.Path.{sym, ap, _∙_}
 use mathlib.Core.Bool.{Bool}
 use mathlib.Core.Logic.{⊎-elim}
 use borrow.Author.Needs.{needs}
-use lib.ListN.{length}
 use borrow.Author.Tests.{ne-eqb}
 use Rattle.laws.specs.Bools.{both}
-use Rattle.lexer.proofs.Sources.{next-shebang, next-token, no-shebang}
-use Rattle.lexer.specs.Next.{closeSpan, isShebang}
+use Rattle.lexer.proofs.Sources.{later-is, next-shebang, next-token, no-shebang}
+use Rattle.lexer.specs.Next.{isShebang}
 use Rattle.text.specs.Utf8.{rest}
 use Rattle.token.specs.Reads.{gotOf}
 use Rattle.token.specs.declared.kind.Kind.the-variants.{Shebang}
@@ -25,14 +24,11 @@ got-requires c κs = search needs
 returns : tie.Need-returns
 returns c = c .got .ensures ∙ ap (gotOf Shebang 0) (c .before .consume-line .ensures) ∙ next-shebang (c .before .before .before .before .before .before .args .s .now) (c .before .before .before .before .before .before .args .at) (c .before .before .before .before .if1 .taken) (sym (c .before .before .before .is-shebang .ensures) ∙ c .before .before .if2 .taken)
 
-read-token-requires : tie.Need-read-token-requires
-read-token-requires c κs = search needs
-
-close-span-requires : tie.Need-close-span-requires
-close-span-requires c κs = search needs
+later-requires : tie.Need-later-requires
+later-requires c κs = search needs
 
 returns-2 : tie.Need-returns-2
-returns-2 c = c .close-span .ensures ∙ ap (closeSpan (length (c .before .before .before .before .args .s .now))) (c .before .read-token .ensures) ∙ next-token (c .before .before .before .before .args .s .now) (c .before .before .before .before .args .at) (⊎-elim (λ w. no-shebang (c .before .before .before .before .args .s .now) (c .before .before .before .before .args .at) (w .0 .taken) (sym (w .1 .ensures) ∙ w .2 .left)) (λ w. ap (λ (b : Bool). both b (isShebang (rest (c .before .before .before .before .args .s .now) (c .before .before .before .before .args .at)))) (ne-eqb (c .before .before .before .before .args .at) 0 (w .left))) (c .before .before .if1 .came))
+returns-2 c = c .later .ensures ∙ sym (later-is (c .before .before .before .args .s .now) (c .before .before .before .args .at)) ∙ next-token (c .before .before .before .args .s .now) (c .before .before .before .args .at) (⊎-elim (λ w. no-shebang (c .before .before .before .args .s .now) (c .before .before .before .args .at) (w .0 .taken) (sym (w .1 .ensures) ∙ w .2 .left)) (λ w. ap (λ (b : Bool). both b (isShebang (rest (c .before .before .before .args .s .now) (c .before .before .before .args .at)))) (ne-eqb (c .before .before .before .args .at) 0 (w .left))) (c .before .if1 .came))
 
 pub next-spec : {M : Type 1} → statement M
 next-spec =
@@ -42,6 +38,5 @@ next-spec =
     consume-line-requires
     got-requires
     returns
-    read-token-requires
-    close-span-requires
+    later-requires
     returns-2)
