@@ -153,7 +153,7 @@ enum {
     PUFFSATCHEL_WAITING_FULL = 31, /* a 257th token of white space would wait */
     PUFFSATCHEL_PAST_HELD = 32,    /* more than are held */
     PUFFSATCHEL_STORE_SHORT = 33,  /* no room for what is emitted */
-    PUFFSATCHEL_FAULTY = 34,       /* a list that is faulty by 40, 42 or 43, or a state that is not this list's */
+    PUFFSATCHEL_FAULTY = 34,       /* a list that is faulty by 40, 42 or 43, or a state that cannot be this list's */
 
     /* A stored list; start and end name the record, from 0 on. */
     PUFFSATCHEL_BAD_LENGTH = 40, /* no whole number of records */
@@ -209,7 +209,8 @@ uint32_t puffsatchel_load(const uint8_t *bytes, size_t bytes_len, uint32_t *out,
  * A fresh state is zero but for keep:
  *     puffsatchel_ahead state = PUFFSATCHEL_AHEAD_KEEP;      white space is emitted with the token behind it
  *     puffsatchel_ahead state = PUFFSATCHEL_AHEAD_DROP;      white space is dropped
- * White space is the kinds 1 to 4. Whatever bytes a state holds, each call answers, and refuses with 34 what is not this list's. */
+ * White space is the kinds 1 to 4. Whatever bytes a state holds, each call answers, and refuses with 34 a state
+ * that cannot be this list's. */
 typedef struct puffsatchel_ahead {
     uint32_t next;          /* the first token of the list that was not read */
     uint32_t keep;          /* 0: white space is dropped */
@@ -225,7 +226,7 @@ typedef struct puffsatchel_ahead {
 #define PUFFSATCHEL_AHEAD_KEEP {0, 1, 0, 0, 0, 0, {0}, {0}, {0}}
 #define PUFFSATCHEL_AHEAD_DROP {0, 0, 0, 0, 0, 0, {0}, {0}, {0}}
 
-/* Does not compile where the struct is laid out otherwise than in the archive. */
+/* Does not compile where the state has another size than in the archive. */
 typedef char puffsatchel_ahead_has_1128_bytes[sizeof(puffsatchel_ahead) == 1128 ? 1 : -1];
 
 /* fill reads until n + 1 tokens are held or the list ends. nth gives the kind of the n-th token (peek: n is 0), nth_token its span too, glued its
@@ -251,7 +252,7 @@ uint32_t puffsatchel_advance(puffsatchel_ahead *state, size_t n, const uint32_t 
 uint32_t puffsatchel_array(puffsatchel_ahead *state, size_t n, const uint32_t *list, size_t list_len, uint32_t *out, size_t out_len, puffsatchel_answer *answer);
 
 /* The same for a list that puffsatchel_list wrote, or that puffsatchel_store or puffsatchel_load has accepted: the list is not tested again, which
- * takes as long as it is. On any other list they answer too, and read no word outside it; but its faults are not refused with 34. */
+ * would cost its length at each call. On any other list they answer too, and read no word outside it; but its faults are not refused with 34. */
 uint32_t puffsatchel_tested_fill(puffsatchel_ahead *state, size_t n, const uint32_t *list, size_t list_len, puffsatchel_answer *answer);
 uint32_t puffsatchel_tested_peek(puffsatchel_ahead *state, const uint32_t *list, size_t list_len, puffsatchel_answer *answer);
 uint32_t puffsatchel_tested_nth(puffsatchel_ahead *state, size_t n, const uint32_t *list, size_t list_len, puffsatchel_answer *answer);

@@ -3,8 +3,8 @@
 
 usage (run at the repository's root): tools/pass.py
 
-Writes the shared walks, proofs/pass, from tools/pass.txt, one for each shape of a call, and the Proof.antt of each call over
-one of them: the call and the method or function that it calls meet the contract at one definition of specs/Calls.antt.
+Writes the shared walks, crates/look_answers/proofs/pass, from tools/pass.txt, one for each shape of a call, and the Proof.antt
+of each call over one of them: the call and the method or function that it calls meet the contract at one definition of specs/Calls.antt.
 tools/walks.py says how pass.txt is read.
 """
 import os
@@ -16,6 +16,7 @@ from uses import use_lines  # noqa: E402
 from walks import SHAPES, cite, opened, shaped, write  # noqa: E402
 
 CRATE = 'puffsatchel_look'
+WALKS = 'look_answers'
 CALLS = {  # the shape, and the width of the number
     'fill': ('n', 'w64'), 'peek': ('', ''), 'nth': ('n', 'w64'), 'nth_token': ('n', 'w64'), 'glued': ('n', 'w64'), 'is_eof': ('', ''),
     'flush_ws': ('o', ''), 'bump': ('o', ''), 'bump_if': ('no', 'w32'), 'bump_while': ('no', 'w32'), 'advance': ('no', 'w64'), 'array': ('no', 'w64'),
@@ -34,13 +35,13 @@ def proof(call, callee, definition, shape, width):
     made, given = use_lines(definition, CRATE, 'proofs', ''), f'by-def.name tell-def.name {definition}'
     if width:
         made, given = [f'use mir.Syntax.{{{width}}}'] + made, f'{width} {given}'
-    cite(CRATE, call, f'{CRATE}.pass.{SHAPES[shape]}', 'pass-meets', given, {'by': callee, 'tell': f'{CRATE}.tell_looked'}, made)
+    cite(CRATE, call, f'{WALKS}.pass.{SHAPES[shape]}', 'pass-meets', given, {'by': callee, 'tell': f'{WALKS}.tell_looked'}, made)
 
 
-opened(CRATE, 'pass', 'The walks of the calls.', SHAPES.values())
+opened(WALKS, 'pass', 'The walks of the calls.', SHAPES.values())
 for shape, name in SHAPES.items():
     n, o = 'n' in shape, 'o' in shape
-    write(CRATE, 'pass', name, shaped(open(f'{HERE}/pass.txt').read().replace('HERE', CRATE), n, o, *layout(n, o)))
+    write(WALKS, 'pass', name, shaped(open(f'{HERE}/pass.txt').read().replace('HERE', WALKS), n, o, *layout(n, o)))
 for call, (shape, width) in CALLS.items():
     words = call.split('_')
     definition = words[0] + ''.join(w.title() for w in words[1:]) + 'Call'

@@ -4,11 +4,11 @@ use mathlib.Core.Path.{_≡_, ap}
 use mathlib.Core.List.{List}
 use lib.Seq.{sets}
 use Rattle.laws.proofs.Determined.{determined}
+use Rattle.look_answers.specs.Told.{numberTold, wordsTold}
 use Rattle.lookahead.specs.View.{viewOf}
 use Rattle.lookahead.specs.declared.ahead.Ahead.{Ahead}
 use Rattle.looks.specs.Buffer.{State}
 use Rattle.looks.specs.Calls.{Turn}
-use Rattle.puffsatchel_look.specs.Calls.{numberTold, wordsTold}
 
 -- what is lent is told by its view
 lent : (a b : Ahead) → viewOf a ≡ viewOf b → a ≡ b

@@ -1,23 +1,11 @@
--- Each call of the lookahead for C: its turn, of the state, the number, the list and the store on entry; and what C is told of its answer.
+-- Each call of the lookahead for C: its turn, of the state, the number, the list and the store on entry.
 use Prim.Native.Nat.{ℕ}
-use mathlib.Core.List.{List, [], _∷_}
+use mathlib.Core.List.{List}
 use lib.ListN.{length}
 use Rattle.listed.specs.Checked.{listed}
 use Rattle.looks.specs.Buffer.{State}
 use Rattle.looks.specs.Calls.{Turn, advanceBy, arrayBy, bumpBy, bumpIfBy, fillBy, flushBy, gluedBy, isEofBy, nthBy, nthTokenBy}
 use Rattle.looks.specs.While.{bumpWhileBy}
-use Rattle.looks.specs.declared.look.Looked.{Looked}
-use Rattle.looks.specs.declared.look.Looked.the-variants.{Done, Refused}
-
--- the result: the number of a refusal, 0 where there is none
-abbrev pub numberTold : Looked → ℕ
-numberTold (Done count value start end) = 0
-numberTold (Refused number) = number
-
--- the record: value, count, start, end, reached; a refusal has no place
-abbrev pub wordsTold : Looked → List ℕ
-wordsTold (Done count value start end) = value ∷ count ∷ start ∷ end ∷ 0 ∷ []
-wordsTold (Refused number) = 0 ∷ 0 ∷ 0 ∷ 0 ∷ 0 ∷ []
 
 -- for a list that was tested
 abbrev pub testedFillCall : State → ℕ → List ℕ → Turn

@@ -1,32 +1,12 @@
 // The lookahead's calls for C and Rust (include/puffsatchel.h): the result is a refusal's number, 0 where there is none, and the rest of the
 // answer goes to five lent words. The state is lent and changed where it stands; whatever bytes it holds, each call answers.
+use look_answers::tell_looked;
 use lookahead::Ahead;
-use looks::Looked;
 ghost use mathlib.Core.Path.{_≡_};
 ghost use lib.Seq.{sets};
+ghost use Rattle.look_answers.specs.Told.{numberTold, wordsTold};
 ghost use Rattle.lookahead.specs.View.{viewOf};
-ghost use Rattle.puffsatchel_look.specs.Calls.{advanceCall, arrayCall, bumpCall, bumpIfCall, bumpWhileCall, fillCall, flushWsCall, gluedCall, isEofCall, nthCall, nthTokenCall, numberTold, peekCall, testedAdvanceCall, testedArrayCall, testedBumpCall, testedBumpIfCall, testedBumpWhileCall, testedFillCall, testedFlushWsCall, testedGluedCall, testedIsEofCall, testedNthCall, testedNthTokenCall, testedPeekCall, wordsTold};
-
-// Value, count, start, end, and 0 for the place reached; a refusal has no place.
-fn tell_looked(looked: Looked, answer: &mut [usize; 5]) -> u32
-    ensures { λ r. ⌜ (r ≡ numberTold looked) × (now (answer .exit) ≡ wordsTold looked) ⌝ }
-{
-    match looked {
-        Looked::Done {
-            count,
-            value,
-            start,
-            end,
-        } => {
-            *answer = [value as usize, count, start as usize, end as usize, 0];
-            0
-        }
-        Looked::Refused { number } => {
-            *answer = [0, 0, 0, 0, 0];
-            number
-        }
-    }
-}
+ghost use Rattle.puffsatchel_look.specs.Calls.{advanceCall, arrayCall, bumpCall, bumpIfCall, bumpWhileCall, fillCall, flushWsCall, gluedCall, isEofCall, nthCall, nthTokenCall, peekCall, testedAdvanceCall, testedArrayCall, testedBumpCall, testedBumpIfCall, testedBumpWhileCall, testedFillCall, testedFlushWsCall, testedGluedCall, testedIsEofCall, testedNthCall, testedNthTokenCall, testedPeekCall};
 
 #[no_mangle]
 pub extern "C" fn puffsatchel_fill(

@@ -1,8 +1,8 @@
 use mathlib.Core.Path.{sym, ap}
 use borrow.Author.Needs.{needs}
-use Rattle.puffsatchel_look.specs.Calls.{numberTold, wordsTold}
-use Rattle.puffsatchel_look.proofs.tell_looked.Statement.{statement}
-use Rattle.puffsatchel_look.proofs.tell_looked.Tie as tie
+use Rattle.look_answers.specs.Told.{numberTold, wordsTold}
+use Rattle.look_answers.proofs.tell_looked.Statement.{statement}
+use Rattle.look_answers.proofs.tell_looked.Tie as tie
 
 enum-known-looked : tie.Need-enum-known-looked
 enum-known-looked c = search needs
