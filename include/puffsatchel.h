@@ -30,6 +30,7 @@ enum {
     PUFFSATCHEL_BYTES_PER_RECORD = 11,                                  /* of a stored list */
     PUFFSATCHEL_LARGEST_STORED = 11 * PUFFSATCHEL_LARGEST_SOURCE,       /* bytes */
     PUFFSATCHEL_DEEPEST_TEMPLATE = 64,
+    PUFFSATCHEL_AHEAD_BYTES = 1128,                                     /* of a lookahead's state */
     PUFFSATCHEL_MOST_HELD = 8,                                          /* tokens that the lookahead holds */
     PUFFSATCHEL_MOST_WAITING = 256,                                     /* tokens of white space that wait */
     PUFFSATCHEL_LARGEST_BUMP = 3 * (256 + 1)                            /* words: one token with all that waits before it */
@@ -227,7 +228,7 @@ typedef struct puffsatchel_ahead {
 #define PUFFSATCHEL_AHEAD_DROP {0, 0, 0, 0, 0, 0, {0}, {0}, {0}}
 
 /* Does not compile where the state has another size than in the archive. */
-typedef char puffsatchel_ahead_has_1128_bytes[sizeof(puffsatchel_ahead) == 1128 ? 1 : -1];
+typedef char puffsatchel_ahead_size[sizeof(puffsatchel_ahead) == PUFFSATCHEL_AHEAD_BYTES ? 1 : -1];
 
 /* fill reads until n + 1 tokens are held or the list ends. nth gives the kind of the n-th token (peek: n is 0), nth_token its span too, glued its
  * kind only where no white space stands before it, else 67; is_eof gives 1 at the end, else 0. Past the end every token is 67, a point there.
