@@ -5,7 +5,7 @@
 use core::fmt::{self, Write};
 
 use puffsatchel::{list, load, outline, read, store, test, unescape};
-use puffsatchel::{Form, Kind, Lexer, Reason, Refusal, Stopped, Token, Tokens};
+use puffsatchel::{Form, Kind, Lexer, Lookahead, Reason, Refusal, Stopped, Token, Tokens, Whitespace};
 
 #[no_mangle]
 pub fn lexer_new(source: &[u8]) -> Lexer<'_> {
@@ -47,6 +47,21 @@ pub fn unescapes(form: Form, body: &str, out: &mut [u8]) -> Result<usize, Refusa
 pub fn carries(words: &mut [u32], bytes: &mut [u8]) -> Result<usize, Refusal> {
     store(words, bytes)?;
     load(bytes, words)
+}
+
+#[no_mangle]
+pub fn looks(words: &[u32], n: usize, kind: Kind, out: &mut [u32]) -> Result<Token, Refusal> {
+    let mut ahead = Lookahead::new(words, Whitespace::Keep)?;
+    ahead.fill(n)?;
+    if ahead.is_eof()? || ahead.peek()? == ahead.nth(n)? || ahead.glued(n)? == kind {
+        ahead.array(n, out)?;
+        ahead.advance(n, out)?;
+    }
+    ahead.flush_ws(out)?;
+    ahead.bump_if(kind, out)?;
+    ahead.bump_while(kind, out)?;
+    ahead.bump(out)?;
+    ahead.nth_token(n)
 }
 
 #[no_mangle]

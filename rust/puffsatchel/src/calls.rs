@@ -14,6 +14,37 @@ pub(crate) struct Answer {
     pub(crate) reached: usize,
 }
 
+/// The lookahead's state; puffsatchel.h has the same struct. Whatever numbers it holds, each call answers.
+#[repr(C)]
+#[derive(Debug, Clone)]
+pub(crate) struct Ahead {
+    next: u32,
+    keep: u32,
+    held_at: usize,
+    held_len: usize,
+    wait_at: usize,
+    wait_len: usize,
+    held: [u32; 8],
+    counts: [u32; 8],
+    waiting: [u32; 256],
+}
+
+impl Ahead {
+    pub(crate) const fn fresh(keep: bool) -> Self {
+        Self {
+            next: 0,
+            keep: keep as u32,
+            held_at: 0,
+            held_len: 0,
+            wait_at: 0,
+            wait_len: 0,
+            held: [0; 8],
+            counts: [0; 8],
+            waiting: [0; 256],
+        }
+    }
+}
+
 #[link(name = "puffsatchel", kind = "static")]
 extern "C" {
     fn puffsatchel_version() -> u32;
@@ -147,4 +178,61 @@ pub(crate) fn load(bytes: &[u8], out: &mut [u32]) -> Answered {
         // SAFETY: reads one slice and writes the other, which is borrowed as mutable and so overlaps nothing.
         unsafe { puffsatchel_load(bytes.as_ptr(), bytes.len(), out.as_mut_ptr(), out.len(), answer) }
     })
+}
+
+/// The lookahead's calls, each with the number that it takes beside the list, and the store if it has one.
+macro_rules! lookahead {
+    ($($name:ident as $call:ident($($number:ident: $kind:ty)?) $($out:ident)?;)*) => {
+        extern "C" {
+            $(
+                fn $call(
+                    state: *mut Ahead,
+                    $($number: $kind,)?
+                    list: *const u32,
+                    list_len: usize,
+                    $($out: *mut u32, room: usize,)?
+                    answer: *mut Answer,
+                ) -> u32;
+            )*
+        }
+
+        $(
+            pub(crate) fn $name(
+                state: &mut Ahead,
+                $($number: $kind,)?
+                list: &[u32],
+                $($out: &mut [u32],)?
+            ) -> Answered {
+                Answered::of(|answer| {
+                    // SAFETY: reads the list, writes the state, the answer and the store, which are borrowed as mutable and so overlap nothing.
+                    unsafe {
+                        $call(
+                            state,
+                            $($number,)?
+                            list.as_ptr(),
+                            list.len(),
+                            $($out.as_mut_ptr(), $out.len(),)?
+                            answer,
+                        )
+                    }
+                })
+            }
+        )*
+    };
+}
+
+lookahead! {
+    advance_over as puffsatchel_advance(n: usize) out;
+    fill as puffsatchel_tested_fill(n: usize);
+    nth as puffsatchel_tested_nth(n: usize);
+    nth_token as puffsatchel_tested_nth_token(n: usize);
+    glued as puffsatchel_tested_glued(n: usize);
+    peek as puffsatchel_tested_peek();
+    is_eof as puffsatchel_tested_is_eof();
+    flush_ws as puffsatchel_tested_flush_ws() out;
+    bump as puffsatchel_tested_bump() out;
+    bump_if as puffsatchel_tested_bump_if(kind: u32) out;
+    bump_while as puffsatchel_tested_bump_while(kind: u32) out;
+    advance as puffsatchel_tested_advance(n: usize) out;
+    array as puffsatchel_tested_array(n: usize) out;
 }

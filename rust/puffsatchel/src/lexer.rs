@@ -118,7 +118,7 @@ fn next_at(source: &[u8], place: usize) -> Result<Token, Refusal> {
     calls::next(source, place).or_refusal().and_then(token)
 }
 
-fn token(answer: Answer) -> Result<Token, Refusal> {
+pub(crate) fn token(answer: Answer) -> Result<Token, Refusal> {
     let span = Span { start: answer.start, end: answer.end };
     let number = u32::try_from(answer.value).unwrap_or(u32::MAX);
 

@@ -15,7 +15,8 @@
 //!
 //! [`Lexer`] reads token by token. [`list`] puts all tokens into a lent store, three words each, in one call, which is
 //! the faster way; [`Tokens`] reads such a list. [`outline`] hides what stands inside strings, comments and templates,
-//! [`unescape`] reads the escapes of a literal's body, [`store`] and [`load`] carry a list to bytes and back.
+//! [`unescape`] reads the escapes of a literal's body, [`store`] and [`load`] carry a list to bytes and back, and a
+//! [`Lookahead`] answers what a parser asks of a list.
 
 #![no_std]
 #![deny(missing_docs, unsafe_code)]
@@ -26,12 +27,14 @@ mod calls;
 mod kind;
 mod lexer;
 mod lists;
+mod lookahead;
 mod refusal;
 mod texts;
 
 pub use self::kind::{Delimiter, Kind};
 pub use self::lexer::{read, test, Lexer, Span, Token};
 pub use self::lists::{list, load, store, Stopped, Tokens};
+pub use self::lookahead::{Lookahead, Whitespace};
 pub use self::refusal::{Reason, Refusal};
 pub use self::texts::{outline, unescape, Form};
 
