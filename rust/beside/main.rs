@@ -10,6 +10,7 @@ mod domain;
 mod lent;
 mod own;
 mod rules;
+mod scripts;
 mod sink;
 mod sources;
 
@@ -19,12 +20,9 @@ mod chance;
 mod damage;
 #[path = "../frames/escape.rs"]
 mod escape;
-// These two have scripts for the lookahead too, which is not compared yet.
 #[path = "../frames/examples.rs"]
-#[allow(dead_code)]
 mod examples;
 #[path = "../frames/look.rs"]
-#[allow(dead_code)]
 mod look;
 #[path = "../frames/pieces.rs"]
 mod pieces;
@@ -50,8 +48,10 @@ struct Plan {
     source_length: usize,
     body_length: usize,
     scalars: bool,
+    short_scripts: bool,
     sources: u64,
     bodies: u64,
+    scripts: u64,
     rules: u64,
     copies: u64,
     largest: u64,
@@ -99,8 +99,10 @@ fn plan(arguments: &[String]) -> Option<Plan> {
         source_length: 5,
         body_length: 4,
         scalars: true,
+        short_scripts: true,
         sources: 2_000_000,
         bodies: 2_000_000,
+        scripts: 2_000_000,
         rules: 500_000,
         copies: 3,
         largest: 50,
@@ -111,8 +113,10 @@ fn plan(arguments: &[String]) -> Option<Plan> {
         source_length: 3,
         body_length: 2,
         scalars: false,
+        short_scripts: false,
         sources: 10_000,
         bodies: 10_000,
+        scripts: 10_000,
         rules: 2_000,
         copies: 3,
         largest: 2,
@@ -142,7 +146,8 @@ fn run(plan: &Plan) -> io::Result<()> {
 
     stream("examples".to_owned(), &mut |sink| {
         examples::list(sink)?;
-        examples::escape(sink)
+        examples::escape(sink)?;
+        examples::look(sink)
     })?;
     stream("one unit repeated to 65,535, 65,536 and 65,537 bytes".to_owned(), &mut examples::long)?;
     stream(format!("rule files cut at 65,535, 65,536 and 65,537 bytes, seed {of_rules}"), &mut |sink| {
@@ -153,12 +158,17 @@ fn run(plan: &Plan) -> io::Result<()> {
     })?;
     stream(format!("random sources, seed {of_sources}"), &mut |sink| source::list(sink, plan.sources, of_sources))?;
     stream(format!("random bodies, seed {of_bodies}"), &mut |sink| escape::random(sink, plan.bodies, of_bodies))?;
+    stream(format!("random scripts of lookahead calls, seed {of_sources}"), &mut |sink| look::random(sink, plan.scripts, of_sources))?;
     stream(format!("every body of up to {} scalars, five forms", plan.body_length), &mut |sink| {
         short::escape(sink, plan.body_length)
     })?;
 
     if plan.scalars {
         stream("every Unicode scalar where a rule may look at it".to_owned(), &mut scalars::all)?;
+    }
+
+    if plan.short_scripts {
+        stream("every script of up to four lookahead calls over 16 small sources".to_owned(), &mut look::short)?;
     }
 
     stream(format!("every source of up to {} scalars", plan.source_length), &mut |sink| {
@@ -171,7 +181,7 @@ fn run(plan: &Plan) -> io::Result<()> {
 
 /// A tally in words; of sources outside the domain of equality only our own answers were judged.
 fn said(tally: &Tally) -> String {
-    let mut said = format!("{} cases ({} sources, {} bodies)", tally.cases(), tally.sources, tally.bodies);
+    let mut said = format!("{} cases ({} sources, {} bodies, {} scripts)", tally.cases(), tally.sources, tally.bodies, tally.scripts);
 
     for (count, (_, reason)) in tally.outside.iter().zip(REASONS) {
         if *count > 0 {

@@ -6,6 +6,7 @@ use std::time::{Duration, Instant};
 use crate::answers::Difference;
 use crate::bodies::Bodies;
 use crate::domain::REASONS;
+use crate::scripts::Scripts;
 use crate::sources::Sources;
 
 const PROGRESS_EVERY: Duration = Duration::from_secs(5);
@@ -20,18 +21,20 @@ const SHOWN: usize = 8192;
 pub(crate) struct Tally {
     pub(crate) sources: u64,
     pub(crate) bodies: u64,
+    pub(crate) scripts: u64,
     /// Sources outside the domain of equality, by reason in the order of `REASONS`.
     pub(crate) outside: [u64; REASONS.len()],
 }
 
 impl Tally {
     pub(crate) fn cases(&self) -> u64 {
-        self.sources + self.bodies
+        self.sources + self.bodies + self.scripts
     }
 
     pub(crate) fn add(&mut self, other: &Tally) {
         self.sources += other.sources;
         self.bodies += other.bodies;
+        self.scripts += other.scripts;
 
         for (sum, more) in self.outside.iter_mut().zip(other.outside) {
             *sum += more;
@@ -42,6 +45,7 @@ impl Tally {
 pub(crate) struct Sink {
     sources: Sources,
     bodies: Bodies,
+    scripts: Scripts,
     name: String,
     tally: Tally,
     began: Instant,
@@ -53,6 +57,7 @@ impl Sink {
         Self {
             sources: Sources::new(),
             bodies: Bodies::new(),
+            scripts: Scripts::new(),
             name: String::new(),
             tally: Tally::default(),
             began: Instant::now(),
@@ -79,23 +84,34 @@ impl Sink {
         };
 
         compared.map_err(|Difference(said)| {
-            let (name, number) = (&self.name, self.tally.cases());
             let cut = &payload[..payload.len().min(SHOWN)];
             let (mode, length, input) = (char::from(mode), payload.len(), cut.escape_ascii());
-            io::Error::other(format!("{name}: case {number}, mode {mode}, {length} bytes:\n  {input}\n{said}"))
+            self.differs(format!("mode {mode}, {length} bytes:\n  {input}\n{said}"))
         })?;
 
+        self.progress();
+        Ok(())
+    }
+
+    pub(crate) fn script(&mut self, keep: bool, source: &[u8], ops: &[(u8, u8)]) -> io::Result<()> {
+        self.scripts.compare(keep, source, ops).map_err(|Difference(said)| {
+            self.differs(format!("white space kept {keep}:\n  {}\n  {ops:?}\n{said}", source.escape_ascii()))
+        })?;
+
+        self.tally.scripts += 1;
+        self.progress();
+        Ok(())
+    }
+
+    fn differs(&self, said: String) -> io::Error {
+        io::Error::other(format!("{}: case {}, {said}", self.name, self.tally.cases()))
+    }
+
+    fn progress(&mut self) {
         if self.tally.cases() % CASES == 0 && self.shown.elapsed() >= PROGRESS_EVERY {
             self.shown = Instant::now();
             eprintln!("compare-all: {}: {} cases equal so far", self.name, self.tally.cases());
         }
-
-        Ok(())
-    }
-
-    /// The generators' scripts of lookahead calls: the library has no lookahead to compare them with yet.
-    pub(crate) fn script(&mut self, _: bool, _: &[u8], _: &[(u8, u8)]) -> io::Result<()> {
-        Err(io::Error::other("a script of lookahead calls, which are not compared yet"))
     }
 
     fn source(&mut self, source: &[u8]) -> Result<(), Difference> {

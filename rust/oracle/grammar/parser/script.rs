@@ -117,31 +117,53 @@ pub(crate) fn answer(
 }
 
 fn run(source: &str, script: &Script<'_>, answer: &mut Answer) {
-    let mut parser = Parser::new(Source::lexer(plain_lexer(source)));
-    parser.include_whitespace(script.keep);
-    let mut numbers = Vec::new();
+    let ops = script.ops.chunks(2).map(|op| (op[0], op[1]));
 
-    for op in script.ops.chunks(2) {
-        let op = Op::new(op[0], op[1]).expect("the script was tested");
+    let inside = each_call(source, script.keep, ops, |name, numbers, emitted| {
+        answer.word(name);
+        answer.numbers(numbers);
+        answer.word("|");
+        answer.numbers(emitted);
+        answer.end_line();
+    });
+
+    if !inside {
+        answer.word("outside");
+        answer.end_line();
+    }
+}
+
+/// Makes the calls over a source that lists, and tells of each its name, the numbers that it answers and the tokens that
+/// it emits, three words each; false before the first that is outside the domain of equality.
+pub fn each_call(
+    source: &str,
+    keep: bool,
+    ops: impl IntoIterator<Item = (u8, u8)>,
+    mut told: impl FnMut(&'static str, &[u32], &[u32]),
+) -> bool {
+    let mut parser = Parser::new(Source::lexer(plain_lexer(source)));
+    parser.include_whitespace(keep);
+    let mut numbers = Vec::new();
+    let mut emitted = Vec::new();
+
+    for (code, argument) in ops {
+        let op = Op::new(code, argument).expect("a call's code is 0 to 11");
         numbers.clear();
+        emitted.clear();
         let inside = call(&mut parser, op, &mut numbers).expect("the source was listed");
 
         if !inside || parser.ws.most() > MOST_WAITING {
-            answer.word("outside");
-            answer.end_line();
-            return;
+            return false;
         }
-
-        answer.word(op.name());
-        answer.numbers(&numbers);
-        answer.word("|");
 
         for (kind, span) in parser.tree.take_tokens() {
-            answer.numbers(&[number_of(kind), span.start, span.end]);
+            emitted.extend([number_of(kind), span.start, span.end]);
         }
 
-        answer.end_line();
+        told(op.name(), &numbers, &emitted);
     }
+
+    true
 }
 
 /// Makes one call and answers whether it is inside the domain of equality.
