@@ -20,7 +20,7 @@ pub struct Words {
     pub end: u32,
 }
 
-pub fn slot8(at: usize, i: usize) -> usize
+pub(crate) fn slot8(at: usize, i: usize) -> usize
     ensures { λ r. ⌜ r ≡ (at + i) % 8 ⌝ }
 {
     (at % 8 + i % 8) % 8
@@ -32,7 +32,7 @@ fn slot256(at: usize, i: usize) -> usize
     (at % 256 + i % 256) % 256
 }
 
-pub fn token_at(list: &[u32], i: u32) -> Words
+pub(crate) fn token_at(list: &[u32], i: u32) -> Words
     ensures { λ r. ⌜ wordsOf r ≡ tokenAt (now (list .entry)) i ⌝ }
 {
     Words {
@@ -42,7 +42,7 @@ pub fn token_at(list: &[u32], i: u32) -> Words
     }
 }
 
-pub fn eof_words(list: &[u32]) -> Words
+pub(crate) fn eof_words(list: &[u32]) -> Words
     ensures { λ r. ⌜ wordsOf r ≡ eofWords (now (list .entry)) ⌝ }
 {
     let end = list_end(list);
@@ -54,7 +54,7 @@ pub fn eof_words(list: &[u32]) -> Words
 }
 
 // The held token n, or the end-of-file token.
-pub fn nth_words(nums: Nums, held: &[u32; 8], n: usize, list: &[u32]) -> Words
+pub(crate) fn nth_words(nums: Nums, held: &[u32; 8], n: usize, list: &[u32]) -> Words
     ensures { λ r. ⌜ wordsOf r ≡ nthWords (now (list .entry)) n nums (now (held .entry)) ⌝ }
 {
     if n < nums.held_len {
@@ -63,13 +63,13 @@ pub fn nth_words(nums: Nums, held: &[u32; 8], n: usize, list: &[u32]) -> Words
     eof_words(list)
 }
 
-pub fn count_before(nums: Nums, counts: &[u32; 8], n: usize) -> usize
+pub(crate) fn count_before(nums: Nums, counts: &[u32; 8], n: usize) -> usize
     ensures { λ r. ⌜ r ≡ ringAt 8 (now (counts .entry)) (nums .«held_at») n ⌝ }
 {
     wide(counts[slot8(nums.held_at, n)])
 }
 
-pub fn put_words(words: Words, out: &mut [u32], at: usize)
+pub(crate) fn put_words(words: Words, out: &mut [u32], at: usize)
     requires { ⌜ at + 3 ≤ length (now out) ⌝ }
     ensures { λ _. ⌜ now (out .exit) ≡ sets (now (out .entry)) at (wordsOf words) ⌝ }
 {
@@ -79,7 +79,7 @@ pub fn put_words(words: Words, out: &mut [u32], at: usize)
 }
 
 // The first `count` that wait, from the slot `from` on, to the front of the store.
-pub fn put_waiting(
+pub(crate) fn put_waiting(
     list: &[u32],
     waiting: &[u32; 256],
     from: usize,
@@ -98,7 +98,7 @@ pub fn put_waiting(
     }
 }
 
-pub fn less_waiting(nums: Nums, count: usize) -> Nums
+pub(crate) fn less_waiting(nums: Nums, count: usize) -> Nums
     requires { ⌜ count ≤ nums .«wait_len» ⌝ }
     ensures { λ r. ⌜ r ≡ lessWaiting count nums ⌝ }
 {
@@ -108,7 +108,7 @@ pub fn less_waiting(nums: Nums, count: usize) -> Nums
     n
 }
 
-pub fn less_held(nums: Nums) -> Nums
+pub(crate) fn less_held(nums: Nums) -> Nums
     ensures { λ r. ⌜ r ≡ lessHeld nums ⌝ }
 {
     if nums.held_len == 0 {

@@ -8,7 +8,7 @@ ghost use mathlib.Core.Path.{_≡_};
 ghost use Rattle.looks.specs.Buffer.{Roomy, fitsFor, gatherAt, gatherTo, gathers, queued, stateOf, whiteTo};
 ghost use Rattle.looks.specs.Numbered.{tokenCount};
 
-pub fn white_to(nums: Nums, to: u32) -> u32
+pub(crate) fn white_to(nums: Nums, to: u32) -> u32
     requires { ⌜ nums .next ≤ to ⌝ }
     ensures { λ r. ⌜ r ≡ whiteTo to nums ⌝ }
 {
@@ -18,7 +18,7 @@ pub fn white_to(nums: Nums, to: u32) -> u32
     0
 }
 
-pub fn gather_to(nums: Nums, to: u32, count: u32) -> Nums
+pub(crate) fn gather_to(nums: Nums, to: u32, count: u32) -> Nums
     requires { ⌜ (nums .next ≤ to) × Roomy nums ⌝ }
     ensures { λ r. ⌜ r ≡ gatherTo to count nums ⌝ }
 {
@@ -33,7 +33,7 @@ pub fn gather_to(nums: Nums, to: u32, count: u32) -> Nums
 }
 
 // Whether no 257th token waits while `times` more are gathered.
-pub fn fits_for(nums: Nums, times: usize, list: &[u32]) -> bool
+pub(crate) fn fits_for(nums: Nums, times: usize, list: &[u32]) -> bool
     requires { ⌜ (nums .next ≤ tokenCount (now list)) × Roomy nums × (nums .«held_len» + times ≤ 8) × (nums .«wait_len» ≤ 256) ⌝ }
     ensures { λ r. ⌜ r ≡ fitsFor (now (list .entry)) times nums ⌝ }
 {
@@ -84,7 +84,7 @@ fn gather_at(
 }
 
 // `times` more tokens gathered.
-pub fn gathers_at(
+pub(crate) fn gathers_at(
     nums: Nums,
     held: &mut [u32; 8],
     counts: &mut [u32; 8],

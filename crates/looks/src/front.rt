@@ -28,7 +28,7 @@ pub struct Front {
     pub words: Words,
 }
 
-pub fn front_of(nums: Nums, held: &[u32], counts: &[u32], list: &[u32]) -> Front
+pub(crate) fn front_of(nums: Nums, held: &[u32], counts: &[u32], list: &[u32]) -> Front
     requires { ⌜ (nums .next ≤ tokenCount (now list)) × (nums .«wait_len» ≤ 256) × (length (now held) ≡ 8) × (length (now counts) ≡ 8) ⌝ }
     ensures { λ r. ⌜ Fronted (now (list .entry)) nums (now (held .entry)) (now (counts .entry)) (r .white) (wordsOf (r .words)) × (r .white ≤ 8589934592) ⌝ }
 {
@@ -54,7 +54,7 @@ pub fn front_of(nums: Nums, held: &[u32], counts: &[u32], list: &[u32]) -> Front
 }
 
 // The front goes to the store at `at`; the numbers afterwards.
-pub fn emit_front(
+pub(crate) fn emit_front(
     nums: Nums,
     front: Front,
     waiting: &[u32; 256],

@@ -4,13 +4,13 @@ ghost use mathlib.Core.Path.{_≡_};
 ghost use lib.ListN.{getD};
 ghost use Rattle.looks.specs.Numbered.{dark, endAt, isWhite, kindAt, listEnd, startAt, tokenCount};
 
-pub fn wide(x: u32) -> usize
+pub(crate) fn wide(x: u32) -> usize
     ensures { λ r. ⌜ (r ≡ x) × (r ≤ 4294967295) ⌝ }
 {
     x as usize
 }
 
-pub fn count_of(list: &[u32]) -> u32
+pub(crate) fn count_of(list: &[u32]) -> u32
     ensures { λ r. ⌜ r ≡ tokenCount (now (list .entry)) ⌝ }
 {
     let whole = list.len() / 3;
@@ -20,7 +20,7 @@ pub fn count_of(list: &[u32]) -> u32
     4294967295
 }
 
-pub fn word(list: &[u32], at: usize) -> u32
+pub(crate) fn word(list: &[u32], at: usize) -> u32
     ensures { λ r. ⌜ r ≡ getD (now (list .entry)) at 0 ⌝ }
 {
     if at < list.len() {
@@ -29,25 +29,25 @@ pub fn word(list: &[u32], at: usize) -> u32
     0
 }
 
-pub fn kind_at(list: &[u32], i: u32) -> u32
+pub(crate) fn kind_at(list: &[u32], i: u32) -> u32
     ensures { λ r. ⌜ r ≡ kindAt (now (list .entry)) i ⌝ }
 {
     word(list, wide(i) * 3)
 }
 
-pub fn start_at(list: &[u32], i: u32) -> u32
+pub(crate) fn start_at(list: &[u32], i: u32) -> u32
     ensures { λ r. ⌜ r ≡ startAt (now (list .entry)) i ⌝ }
 {
     word(list, wide(i) * 3 + 1)
 }
 
-pub fn end_at(list: &[u32], i: u32) -> u32
+pub(crate) fn end_at(list: &[u32], i: u32) -> u32
     ensures { λ r. ⌜ r ≡ endAt (now (list .entry)) i ⌝ }
 {
     word(list, wide(i) * 3 + 2)
 }
 
-pub fn list_end(list: &[u32]) -> u32
+pub(crate) fn list_end(list: &[u32]) -> u32
     ensures { λ r. ⌜ r ≡ listEnd (now (list .entry)) ⌝ }
 {
     let count = count_of(list);
@@ -57,7 +57,7 @@ pub fn list_end(list: &[u32]) -> u32
     end_at(list, count - 1)
 }
 
-pub fn is_white(kind: u32) -> bool
+pub(crate) fn is_white(kind: u32) -> bool
     ensures { λ r. ⌜ r ≡ isWhite kind ⌝ }
 {
     if kind < 1 {
@@ -66,7 +66,7 @@ pub fn is_white(kind: u32) -> bool
     kind <= 4
 }
 
-pub fn next_dark(list: &[u32], from: u32) -> u32
+pub(crate) fn next_dark(list: &[u32], from: u32) -> u32
     ensures { λ r. ⌜ r ≡ dark (now (list .entry)) from ⌝ }
 {
     let count = count_of(list);

@@ -15,7 +15,7 @@ pub struct Filled {
 }
 
 // How many tokens are lacking until n are held.
-pub fn lacks(nums: Nums, n: usize) -> usize
+pub(crate) fn lacks(nums: Nums, n: usize) -> usize
     ensures { λ r. ⌜ r ≡ n - nums .«held_len» ⌝ }
 {
     if nums.held_len < n {
@@ -25,7 +25,7 @@ pub fn lacks(nums: Nums, n: usize) -> usize
 }
 
 // The first of 34 for the state, 30 and 31, or 0.
-pub fn fill_refusal(
+pub(crate) fn fill_refusal(
     nums: Nums,
     held: &[u32; 8],
     counts: &[u32; 8],
@@ -47,7 +47,7 @@ pub fn fill_refusal(
     0
 }
 
-pub fn filled_at(
+pub(crate) fn filled_at(
     nums: Nums,
     held: &mut [u32; 8],
     counts: &mut [u32; 8],

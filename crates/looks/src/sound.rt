@@ -61,7 +61,7 @@ fn ascends(white: bool, list: &[u32], ring: &[u32], count: usize, at: usize, top
     true
 }
 
-pub fn counts_sum(counts: &[u32; 8], count: usize, at: usize) -> usize
+pub(crate) fn counts_sum(counts: &[u32; 8], count: usize, at: usize) -> usize
     requires { ⌜ (at ≤ 8) × (count ≤ 8) ⌝ }
     ensures { λ r. ⌜ r ≡ countSum (now (counts .entry)) count at ⌝ }
 {
@@ -74,7 +74,7 @@ pub fn counts_sum(counts: &[u32; 8], count: usize, at: usize) -> usize
     sum
 }
 
-pub fn sound(
+pub(crate) fn sound(
     nums: Nums,
     held: &[u32; 8],
     counts: &[u32; 8],

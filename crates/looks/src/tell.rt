@@ -7,7 +7,7 @@ ghost use lib.Dec.{eqb};
 ghost use Rattle.looks.specs.Front.{yes};
 ghost use Rattle.looks.specs.declared.look.Looked.the-variants.{Done, Refused};
 
-pub fn done(nums: Nums, count: usize, value: u32, start: u32, end: u32) -> After
+pub(crate) fn done(nums: Nums, count: usize, value: u32, start: u32, end: u32) -> After
     ensures { λ r. ⌜ r ≡ record { nums = nums; answer = Done count value start end } ⌝ }
 {
     After {
@@ -21,7 +21,7 @@ pub fn done(nums: Nums, count: usize, value: u32, start: u32, end: u32) -> After
     }
 }
 
-pub fn refuse(nums: Nums, number: u32) -> After
+pub(crate) fn refuse(nums: Nums, number: u32) -> After
     ensures { λ r. ⌜ r ≡ record { nums = nums; answer = Refused number } ⌝ }
 {
     After {
@@ -31,7 +31,7 @@ pub fn refuse(nums: Nums, number: u32) -> After
 }
 
 // 1 for yes, 0 for no.
-pub fn is_kind(kind: u32, wanted: u32) -> u32
+pub(crate) fn is_kind(kind: u32, wanted: u32) -> u32
     ensures { λ r. ⌜ r ≡ yes (eqb kind wanted) ⌝ }
 {
     if kind == wanted {

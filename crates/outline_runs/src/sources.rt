@@ -66,7 +66,7 @@ fn put(s: &mut [u8], i: usize, byte: u8) -> usize
 }
 
 // Characters of the table; `~` makes a scalar of two bytes where there is room.
-pub fn make(s: &mut [u8], begun: u64) -> u64 {
+pub(crate) fn make(s: &mut [u8], begun: u64) -> u64 {
     let mut seed = begun;
     let mut i: usize = 0;
     while i < s.len() {
@@ -147,7 +147,7 @@ pub struct Damaged {
 
 // A copy whose runs are broken one to four times by characters of the table and by a jump: what the jump passes over is deleted or overwritten,
 // what it goes back over is doubled. One copy in four is cut at the last break.
-pub fn damage(file: &[u8], s: &mut [u8], begun: u64) -> Damaged
+pub(crate) fn damage(file: &[u8], s: &mut [u8], begun: u64) -> Damaged
     requires { ⌜ (0 < length (now file)) × (length (now file) ≤ 4096) ⌝ }
     ensures { λ r. ⌜ r .length ≤ length (now (s .entry)) ⌝ }
 {
