@@ -1,4 +1,5 @@
 pub mod Cases
 pub mod Determined
 pub mod Ranges
+pub mod Sets
 pub mod Tables

@@ -16,7 +16,7 @@ use Rattle.laws.specs.Bools.{same}
 use Rattle.looks.proofs.Answers.{refusal-none}
 use Rattle.looks.proofs.Turns.{front-length, front-state, front-words, nth-length}
 use Rattle.looks.specs.Calls.{advanceRefusal, advanceWords, advanced, arrayRefusal, arrayWords, bumped, withNums}
-use Rattle.rows.proofs.Puts.{sets-append}
+use Rattle.laws.proofs.Sets.{sets-append}
 
 pub sum-mod : (ring : List ℕ) (n at : ℕ) → countSum ring n (at % 8) ≡ countSum ring n at
 unfolding countSum

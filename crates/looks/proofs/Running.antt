@@ -26,7 +26,7 @@ use Rattle.looks.proofs.Turns.{front-length, front-words, sound-sum}
 use Rattle.looks.specs.Calls.{bumped}
 use Rattle.looks.specs.While.{Plannable, Run, emitsThen, fillNums, goesOn, planOf, runOf, stops, tokensLeft, whilePlan, whileRefusal, whileRun}
 use Rattle.looks.specs.declared.whiles.Plan.{Plan}
-use Rattle.rows.proofs.Puts.{sets-append}
+use Rattle.laws.proofs.Sets.{sets-append}
 
 abbrev pub Steady : List ℕ → State → Type 0
 Steady l st = Plannable l (st .nums) (st .held) (st .counts)

@@ -8,7 +8,7 @@ use lib.ListN.{getD, length, set}
 use Rattle.looks.specs.Front.{waitWords}
 use Rattle.looks.specs.Numbered.{tokenAt}
 use Rattle.laws.specs.Bools.{same}
-use Rattle.rows.proofs.Puts.{sets-append}
+use Rattle.laws.proofs.Sets.{sets-append}
 
 pub words-store : (out : List ℕ) (p a b c : ℕ) → set (set (set out p a) (p + 1) b) (p + 2) c ≡ sets out p (a ∷ b ∷ c ∷ [])
 words-store out p a b c =

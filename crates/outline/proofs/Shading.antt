@@ -10,6 +10,7 @@ use lib.Seq.{drop-append-le, length-slice, length-take-le, sets, slice, slice-co
 use lib.ListN.{drop, drop-of-length-le, getD, length, set, take, take-append-drop}
 use borrow.Author.Tests.{le-leb, le-ltb, lt-leb, lt-ltb, ltb-false, ltb-true}
 use Rattle.laws.proofs.Cases.{split}
+use Rattle.laws.proofs.Sets.{sets-append}
 use Rattle.laws.specs.Bools.{both, pick, same}
 use Rattle.lexer.specs.Next.{nextAt}
 use Rattle.marks.specs.Marks.{closeMark, openMark}
@@ -45,12 +46,6 @@ paint-append m (x ∷ a) b p =
     let e : suc p + length a ≡ p + suc (length a) = omega arith in
     ap (λ (l : List ℕ). pick (m p) 0x78 x ∷ l) (paint-append m a b (suc p) ∙ ap (λ (z : ℕ). paint m a (suc p) ++ paint m b z) e)
 
-sets-append : (l xs ys : List ℕ) (i : ℕ) → sets l i (xs ++ ys) ≡ sets (sets l i xs) (i + length xs) ys
-sets-append l [] ys i = let e : i ≡ i + 0 = omega arith in ap (λ (z : ℕ). sets l z ys) e
-sets-append l (x ∷ xs) ys i =
-    let e : suc i + length xs ≡ i + suc (length xs) = omega arith in
-    sets-append (set l i x) xs ys (suc i) ∙ ap (λ (z : ℕ). sets (sets (set l i x) (suc i) xs) z ys) e
-
 pub fill-one : (m : ℕ → Bool) (b s : List ℕ) (i e : ℕ) (v : ℕ) → i < e → e ≤ length s → v ≡ pick (m i) 0x78 (getD s i 0)
     → sets (set b i v) (i + 1) (paint m (slice (i + 1) e s) (i + 1)) ≡ sets b i (paint m (slice i e s) i)
 unfolding paint
@@ -77,7 +72,7 @@ piece m m′ m″ s b a e h k f g =
     sym
     (ap (λ (x : List ℕ). sets b a (paint m x a)) (cut s a e h k)
     ∙ ap (sets b a) (paint-append m (slice a e s) (drop e s) a)
-    ∙ sets-append b (paint m (slice a e s) a) (paint m (drop e s) (a + length (slice a e s))) a
+    ∙ sym (sets-append b (paint m (slice a e s) a) (paint m (drop e s) (a + length (slice a e s))) a (a + length (paint m (slice a e s) a)) refl)
     ∙ (λ j. sets (sets b a (paint-ext m m′ (slice a e s) a (λ i u v. f i u (omega arith)) j)) (z′ j) (paint m (drop e s) (z j)))
     ∙ ap (sets (sets b a (paint m′ (slice a e s) a)) e) (paint-ext m m″ (drop e s) e (λ i u v. g i u)))
 

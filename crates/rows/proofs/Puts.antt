@@ -6,6 +6,7 @@ use native.Mathlib.Omega.{arith}
 use lib.Seq.{length-sets, sets}
 use lib.ListN.{drop, length, length-append, set}
 use borrow.Author.Tests.{le-leb, lt-leb}
+use Rattle.laws.proofs.Sets.{sets-append}
 use Rattle.laws.specs.Bools.{same}
 use Rattle.rows.proofs.Rows.{Left, rows-end, rows-more, rows-whole, rowsFrom}
 use Rattle.rows.specs.Rows.{Row, refusalAt, rowsOf, storedIn, unlessRefused}
@@ -14,11 +15,6 @@ use Rattle.rows.specs.declared.Checked.the-variants.{Faulty, Good}
 use Rattle.rows.specs.declared.Stored.{Stored}
 use Rattle.rows.specs.declared.Stored.the-variants.{Done, Refused}
 use Rattle.token.specs.declared.read.Refusal.{Refusal}
-
--- stores one behind the other
-pub sets-append : (out v w : List ℕ) (i j : ℕ) → i + length v ≡ j → sets (sets out i v) j w ≡ sets out i (v ++ w)
-sets-append out [] w i j e = let z : j ≡ i = omega arith in ap (λ (k : ℕ). sets out k w) z
-sets-append out (a ∷ v) w i j e = sets-append (set out i a) v w (suc i) j (omega arith)
 
 -- `put` writes each row as `one` does, and that is `each` long
 pub record Layout (put : List Row → List ℕ) (one : Row → List ℕ) (each : ℕ) : Type 0 where

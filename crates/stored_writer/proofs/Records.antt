@@ -5,7 +5,8 @@ use mathlib.Core.List.{List}
 use native.Mathlib.Omega.{arith}
 use lib.Seq.{sets}
 use lib.ListN.{drop, getD, length, set}
-use Rattle.rows.proofs.Puts.{Layout, sets-append}
+use Rattle.laws.proofs.Sets.{sets-append}
+use Rattle.rows.proofs.Puts.{Layout}
 use Rattle.rows.proofs.Rows.{at-drop, first-drop}
 use Rattle.rows.specs.Rows.{Row, rowsOf, wordRow}
 use Rattle.stored_writer.specs.Writer.{recordOf, recordsOf, u32Bytes}

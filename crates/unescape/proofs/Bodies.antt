@@ -18,6 +18,7 @@ use Rattle.items.proofs.Items.{Fits, byte-bytes, item-fits, scalar-bytes}
 use Rattle.items.proofs.Lands.{Lands, item-lands, lands-le, lands-room, placeOf}
 use Rattle.items.specs.Items.{isBytes, itemBytes, itemOf}
 use Rattle.items.specs.declared.Form.{Form}
+use Rattle.laws.proofs.Sets.{sets-append}
 use Rattle.laws.proofs.Cases.{never, split, split-eq}
 use Rattle.laws.specs.Bools.{pick, same}
 use Rattle.sound.specs.Source.{sourceTest}
@@ -25,7 +26,6 @@ use Rattle.sound.specs.declared.Tested.{Tested}
 use Rattle.sound.specs.declared.Tested.the-variants.{IllFormed, Misplaced, Sound, TooLong}
 use Rattle.text.proofs.Decode.{Step, rest-tail, width-pos}
 use Rattle.text.specs.Utf8.{rest, width}
-use Rattle.unescape.proofs.Stores.{sets-append}
 use Rattle.unescape.specs.Bodies.{Body, Ending, Result, also, bodyOf, fault, itselfOf, judge, measuredOf, noMore, readOf, refuse, refusedAt, standsOf, turnOf, unescapeOf, whole, writtenOf, wrongCount, wrote}
 use Rattle.unescape.specs.declared.body.Measured.{Measured}
 use Rattle.unescape.specs.declared.body.Measured.the-variants.{Stopped, Whole}
@@ -238,7 +238,7 @@ module _ (form : Form) (s out₀ out : List ℕ) (at n : ℕ) (i : Writing form 
           let size′ : length out′ ≡ length out = ap length z ∙ length-sets out n (itemBytes form x) in
           record {
             same = ap₂ (λ (o : List ℕ) (j : ℕ). sets o j (writtenOf form (bodyAt form s k .items))) z (ap (λ (j : ℕ). n + j) w)
-                ∙ sym (sets-append out n (itemBytes form x) (writtenOf form (bodyAt form s k .items)))
+                ∙ sets-append out (itemBytes form x) (writtenOf form (bodyAt form s k .items)) n (n + length (itemBytes form x)) refl
                 ∙ ap (sets out n) (sym split-bytes) ∙ i .same;
             room = omega (arith, i .room, split-length);
             size = size′ ∙ i .size;

@@ -10,11 +10,6 @@ use Rattle.encoding.specs.Encode.{padded}
 use Rattle.encoding.specs.declared.Encoded.{Encoded}
 use Rattle.laws.specs.Bools.{same}
 
--- one stretch of bytes stored, and then another behind it
-pub sets-append : (l : List ℕ) (n : ℕ) (a b : List ℕ) → sets l n (a ++ b) ≡ sets (sets l n a) (n + length a) b
-sets-append l n [] b = ap (λ (k : ℕ). sets l k b) (omega arith)
-sets-append l n (x ∷ a) b = sets-append (set l n x) (suc n) a b ∙ ap (λ (k : ℕ). sets (sets (set l n x) (suc n) a) k b) (omega arith)
-
 -- four bytes, of which the first are those of a list, and 0 behind
 module _ (l : List ℕ) (h : length l ≤ 4) (r : Encoded) (e : r ≡ padded l) where
   pub padded-len : r .len ≡ length l

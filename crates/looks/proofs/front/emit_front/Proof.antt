@@ -7,7 +7,7 @@ use lib.Seq.{sets}
 use Rattle.looks.proofs.Stores.{wait-length}
 use Rattle.looks.specs.Buffer.{wordsOf}
 use Rattle.looks.specs.Front.{lessHeld, waitWords}
-use Rattle.rows.proofs.Puts.{sets-append}
+use Rattle.laws.proofs.Sets.{sets-append}
 use Rattle.looks.proofs.front.emit_front.Statement.{statement}
 use Rattle.looks.proofs.front.emit_front.Tie as tie
 
