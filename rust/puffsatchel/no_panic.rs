@@ -29,8 +29,13 @@ pub fn lists(source: &[u8], words: &mut [u32]) -> Result<usize, Stopped> {
 }
 
 #[no_mangle]
-pub fn tokens_next(words: &[u32]) -> Option<Token> {
-    Tokens::of(words).next()
+pub fn tokens_new(words: &[u32]) -> Tokens<'_> {
+    Tokens::of(words)
+}
+
+#[no_mangle]
+pub fn tokens_next(tokens: &mut Tokens<'_>) -> Option<Result<Token, Refusal>> {
+    tokens.next()
 }
 
 #[no_mangle]

@@ -121,9 +121,13 @@ fn next_at(source: &[u8], place: usize) -> Result<Token, Refusal> {
 pub(crate) fn token(answer: Answer) -> Result<Token, Refusal> {
     let span = Span { start: answer.start, end: answer.end };
     let number = u32::try_from(answer.value).unwrap_or(u32::MAX);
+    numbered(number, span, answer.reached)
+}
 
+/// The token of a kind's number at its place; refused where the number is no kind's.
+pub(crate) fn numbered(number: u32, span: Span, reached: usize) -> Result<Token, Refusal> {
     match Kind::from_number(number) {
         Some(kind) => Ok(Token { kind, span }),
-        None => Err(Refusal { reason: Reason::OtherVersion(number), span, reached: answer.reached }),
+        None => Err(Refusal { reason: Reason::OtherVersion(number), span, reached }),
     }
 }

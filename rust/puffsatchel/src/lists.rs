@@ -1,11 +1,11 @@
 //! Whole token lists: into a lent store, and to bytes and back.
 
 use core::fmt;
+use core::iter::FusedIterator;
 use core::slice::ChunksExact;
 
 use crate::calls;
-use crate::kind::Kind;
-use crate::lexer::{Span, Token};
+use crate::lexer::{numbered, Span, Token};
 use crate::refusal::Refusal;
 use crate::WORDS_PER_TOKEN;
 
@@ -41,8 +41,9 @@ impl core::error::Error for Stopped {
 /// let mut store = [0; 12];
 /// let count = list("...", &mut store)?;
 /// assert_eq!(store[..3 * count], [52, 0, 2, 28, 2, 3]);
-/// assert!(Tokens::of(&store[..3 * count]).map(|token| token.kind).eq([Kind::DotDot, Kind::Dot]));
-/// # Ok::<(), puffsatchel::Stopped>(())
+/// let kinds: Result<Vec<Kind>, _> = Tokens::of(&store[..3 * count]).map(|token| token.map(|token| token.kind)).collect();
+/// assert_eq!(kinds?, [Kind::DotDot, Kind::Dot]);
+/// # Ok::<(), Box<dyn std::error::Error>>(())
 /// ```
 pub fn list<S: AsRef<[u8]> + ?Sized>(source: &S, store: &mut [u32]) -> Result<usize, Stopped> {
     let answered = calls::list(source.as_ref(), store);
@@ -68,7 +69,10 @@ pub fn load(bytes: &[u8], out: &mut [u32]) -> Result<usize, Refusal> {
     calls::load(bytes, out).or_refusal().map(|answer| answer.count)
 }
 
-/// The tokens of a list, as [`list`] stores it. It ends early at a number that is no kind's, which no list has.
+/// The tokens of a list, as [`list`] stores it. After a refusal and at the end it gives none for ever.
+///
+/// The only refusal is [`Reason::OtherVersion`](crate::Reason::OtherVersion), of a number that is no kind's: no list of
+/// ours has one.
 #[derive(Debug, Clone)]
 pub struct Tokens<'a>(ChunksExact<'a, u32>);
 
@@ -81,16 +85,22 @@ impl<'a> Tokens<'a> {
 }
 
 impl Iterator for Tokens<'_> {
-    type Item = Token;
+    type Item = Result<Token, Refusal>;
 
-    fn next(&mut self) -> Option<Token> {
+    fn next(&mut self) -> Option<Self::Item> {
         let &[number, start, end] = self.0.next()? else {
             return None;
         };
 
-        Some(Token {
-            kind: Kind::from_number(number)?,
-            span: Span { start: start as usize, end: end as usize },
-        })
+        let span = Span { start: start as usize, end: end as usize };
+        let item = numbered(number, span, span.end);
+
+        if item.is_err() {
+            *self = Self::of(&[]);
+        }
+
+        Some(item)
     }
 }
+
+impl FusedIterator for Tokens<'_> {}

@@ -50,10 +50,23 @@ fn listing_refuses_the_token_without_room() {
 #[test]
 fn tokens_of_a_list() {
     let mut tokens = Tokens::of(&[6, 0, 1, 31, 1, 2, 6, 2]);
-    assert_eq!(tokens.next().map(|token| token.kind), Some(Kind::Ident));
-    assert_eq!(tokens.next().map(|token| token.span), Some(Span { start: 1, end: 2 }));
+    assert_eq!(tokens.next().map(|token| token.map(|token| token.kind)), Some(Ok(Kind::Ident)));
+    assert_eq!(tokens.next().map(|token| token.map(|token| token.span)), Some(Ok(Span { start: 1, end: 2 })));
     assert_eq!(tokens.next(), None);
-    assert_eq!(Tokens::of(&[0, 0, 1, 6, 1, 2]).next(), None);
+}
+
+#[test]
+fn a_number_that_is_no_kind_ends_the_tokens_of_a_list() {
+    for number in [0, 68] {
+        let words = [6, 0, 1, number, 1, 3, 31, 3, 4];
+        let mut tokens = Tokens::of(&words);
+        assert!(tokens.next().is_some_and(|token| token.is_ok()));
+
+        let refusal = tokens.next().unwrap().unwrap_err();
+        assert_eq!((refusal.reason, refusal.span), (Reason::OtherVersion(number), Span { start: 1, end: 3 }));
+        assert_eq!(refusal.reached, 3);
+        assert!(tokens.next().is_none() && tokens.next().is_none(), "nothing comes behind a refusal");
+    }
 }
 
 #[test]
