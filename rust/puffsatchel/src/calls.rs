@@ -1,7 +1,12 @@
 //! The calls of the archive, and all that is unsafe: each takes slices and hands on what the archive asks for, pointers
 //! that are not null and are aligned (a slice's always are, an empty one's too) with the number of elements behind them.
 
+use core::mem::size_of;
+
 use crate::refusal::Refusal;
+
+// puffsatchel.h does not compile either where the state has another size.
+const _: () = assert!(size_of::<Answer>() == 40 && size_of::<Ahead>() == 1128);
 
 /// What a call answers beside its result; puffsatchel.h has the same struct.
 #[repr(C)]

@@ -17,7 +17,8 @@ use crate::lexer::Span;
 pub struct Refusal {
     /// Why.
     pub reason: Reason,
-    /// Where; for the reasons 40 to 43 it names the record of the list, and start and end are the same.
+    /// Where; for the reasons 30 to 34 it is 0..0, for 40 to 43 it names the record of the list, and start and end are the
+    /// same.
     pub span: Span,
     /// The place that reading had reached.
     pub reached: usize,
@@ -43,6 +44,7 @@ impl fmt::Display for Refusal {
         let number = self.reason.number();
 
         match number {
+            30..=34 => write!(f, "refused {number}: {}", self.reason),
             40..=43 => write!(f, "refused {number} at record {start}: {}", self.reason),
             _ => write!(f, "refused {number} at {start}..{end}: {}", self.reason),
         }

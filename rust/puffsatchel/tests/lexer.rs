@@ -143,4 +143,8 @@ fn every_reason_says_what_and_what_to_do() {
     let refusal = read("''", 0).unwrap_err();
     let error: &dyn std::error::Error = &refusal;
     assert_eq!(error.to_string(), "refused 12 at 0..2: a char is empty; put a scalar between its quotes");
+
+    // The lookahead's have no place.
+    let refusal = Refusal { reason: Reason::PastHeld, span: Span::default(), reached: 0 };
+    assert_eq!(refusal.to_string(), "refused 32: the advance goes past the held tokens; fill before it");
 }
