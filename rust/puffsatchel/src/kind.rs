@@ -34,7 +34,7 @@ pub enum Kind {
     /// A label, as `'a`.
     Label,
     /// A template, closed or up to the end of the source.
-    Template,
+    TemplateString,
     /// `!`
     Bang,
     /// `#`
@@ -181,7 +181,7 @@ numbered! {
     13 [ByteStr { escaped: false }]
     14 [ByteStr { escaped: true }]
     15 [Label]
-    16 [Template]
+    16 [TemplateString]
     17 [Bang]
     18 [Pound]
     19 [Dollar]
