@@ -179,7 +179,8 @@ fn run(plan: &Plan) -> io::Result<()> {
     Ok(())
 }
 
-/// A tally in words; of sources outside the domain of equality only our own answers were judged.
+/// A tally in words; of sources outside the domain of equality only our own answers were judged, and a script over a source
+/// that is refused is no case.
 fn said(tally: &Tally) -> String {
     let mut said = format!("{} cases ({} sources, {} bodies, {} scripts)", tally.cases(), tally.sources, tally.bodies, tally.scripts);
 
@@ -187,6 +188,10 @@ fn said(tally: &Tally) -> String {
         if *count > 0 {
             said.push_str(&format!(", {count} of them outside the domain by {reason}"));
         }
+    }
+
+    if tally.unlisted > 0 {
+        said.push_str(&format!(", and {} scripts not compared, whose source both refuse", tally.unlisted));
     }
 
     said

@@ -2,7 +2,7 @@
 
 use puffsatchel::{Kind, Lookahead, Refusal, Token, Whitespace};
 
-use crate::answers::Difference;
+use crate::answers::{Difference, Refused};
 use crate::lent::Lent;
 use crate::look::{
     ADVANCE, ARRAY, BUMP, BUMP_IF, BUMP_WHILE, FILL, FLUSH_WS, GLUED, IS_EOF, NTH, NTH_TOKEN, PEEK,
@@ -32,13 +32,20 @@ impl Scripts {
         Self { words: Vec::new(), out: Lent::new(), turn: 0 }
     }
 
-    pub(crate) fn compare(&mut self, keep: bool, source: &[u8], ops: &[(u8, u8)]) -> Result<(), Difference> {
+    /// Answers whether the calls were compared: where both sides refuse the source, and alike, there is no list to call on.
+    pub(crate) fn compare(&mut self, keep: bool, source: &[u8], ops: &[(u8, u8)]) -> Result<bool, Difference> {
         self.words.clear();
         self.words.resize(puffsatchel::WORDS_PER_TOKEN * source.len(), 0);
         let rusts = oracle::text(source).and_then(|text| oracle::list_words(text, |_| ()).map(|_| text));
+        let ours = puffsatchel::list(source, &mut self.words);
 
-        let (Ok(text), Ok(count)) = (rusts, puffsatchel::list(source, &mut self.words)) else {
-            return Ok(());
+        let (text, count) = match (rusts.map_err(Refused::from), ours.map_err(|stopped| stopped.refusal.into())) {
+            (Ok(text), Ok(count)) => (text, count),
+            (Err(rusts), Err(ours)) if rusts == ours => return Ok(false),
+            (rusts, ours) => {
+                let (rusts, ours) = (rusts.map(drop), ours.map(drop));
+                return Err(Difference::new("a script's source", &format!("  {rusts:?}"), &format!("  {ours:?}")));
+            }
         };
 
         self.words.truncate(puffsatchel::WORDS_PER_TOKEN * count);
@@ -52,7 +59,7 @@ impl Scripts {
             wanted.push(Called { numbers, written });
         });
 
-        self.run(keep, ops, &wanted, inside)
+        self.run(keep, ops, &wanted, inside).map(|()| true)
     }
 
     fn run(&mut self, keep: bool, ops: &[(u8, u8)], wanted: &[Called], inside: bool) -> Result<(), Difference> {

@@ -22,6 +22,8 @@ pub(crate) struct Tally {
     pub(crate) sources: u64,
     pub(crate) bodies: u64,
     pub(crate) scripts: u64,
+    /// Scripts over a source that both sides refuse, which are no cases: no call of theirs is compared.
+    pub(crate) unlisted: u64,
     /// Sources outside the domain of equality, by reason in the order of `REASONS`.
     pub(crate) outside: [u64; REASONS.len()],
 }
@@ -35,6 +37,7 @@ impl Tally {
         self.sources += other.sources;
         self.bodies += other.bodies;
         self.scripts += other.scripts;
+        self.unlisted += other.unlisted;
 
         for (sum, more) in self.outside.iter_mut().zip(other.outside) {
             *sum += more;
@@ -94,11 +97,12 @@ impl Sink {
     }
 
     pub(crate) fn script(&mut self, keep: bool, source: &[u8], ops: &[(u8, u8)]) -> io::Result<()> {
-        self.scripts.compare(keep, source, ops).map_err(|Difference(said)| {
+        let compared = self.scripts.compare(keep, source, ops).map_err(|Difference(said)| {
             self.differs(format!("white space kept {keep}:\n  {}\n  {ops:?}\n{said}", source.escape_ascii()))
         })?;
 
-        self.tally.scripts += 1;
+        self.tally.scripts += u64::from(compared);
+        self.tally.unlisted += u64::from(!compared);
         self.progress();
         Ok(())
     }
