@@ -182,16 +182,18 @@ fn run(plan: &Plan) -> io::Result<()> {
 /// A tally in words; of sources outside the domain of equality only our own answers were judged, and a script over a source
 /// that is refused is no case.
 fn said(tally: &Tally) -> String {
-    let mut said = format!("{} cases ({} sources, {} bodies, {} scripts)", tally.cases(), tally.sources, tally.bodies, tally.scripts);
+    let mut said = format!("{} cases ({} sources, {} bodies, {} scripts", tally.cases(), tally.sources, tally.bodies, tally.scripts);
+
+    if tally.unlisted > 0 {
+        said.push_str(&format!(", without {} over a source that both refuse", tally.unlisted));
+    }
+
+    said.push(')');
 
     for (count, (_, reason)) in tally.outside.iter().zip(REASONS) {
         if *count > 0 {
             said.push_str(&format!(", {count} of them outside the domain by {reason}"));
         }
-    }
-
-    if tally.unlisted > 0 {
-        said.push_str(&format!(", and {} scripts not compared, whose source both refuse", tally.unlisted));
     }
 
     said
