@@ -2,17 +2,18 @@
 use Prim.Native.Nat.{ℕ}
 use mathlib.Core.Path.{_≡_}
 use mathlib.Core.List.{List}
+use mathlib.Core.Bool.{Bool}
 use lib.Seq.{sets}
 use lib.ListN.{length}
 use Rattle.laws.proofs.Determined.{determined}
-use Rattle.lexer.specs.Next.{nextAt, readAt}
+use Rattle.lexer.specs.Next.{laterAt, nextAt, readAt}
 use Rattle.listing.specs.Listing.{listOf, storedOf}
 use Rattle.listing.specs.declared.Listed.{Listed}
 use Rattle.outline.specs.Outline.{outlineOf, writtenOf}
 use Rattle.outline.specs.declared.Outlined.{Outlined}
-use Rattle.sound.specs.Source.{positionTest, sourceTest}
+use Rattle.sound.specs.Source.{boundary, positionTest, sourceTest}
 use Rattle.sound.specs.declared.Tested.{Tested}
-use Rattle.text.specs.Utf8.{scalarAt}
+use Rattle.text.specs.Utf8.{scalarAt, secondAt}
 use Rattle.text.specs.declared.utf8.Scalar.{Scalar}
 use Rattle.token.specs.declared.read.Read.{Read}
 
@@ -28,11 +29,20 @@ module _ (s : List ℕ) where
     pub scalar-at-determined : (r q : Scalar) → r ≡ scalarAt s at → q ≡ scalarAt s at → r ≡ q
     scalar-at-determined r q h k = determined r q h k
 
+    pub second-at-determined : (r q : Scalar) → r ≡ secondAt s at → q ≡ secondAt s at → r ≡ q
+    second-at-determined r q h k = determined r q h k
+
+    pub is-boundary-determined : (r q : Bool) → r ≡ boundary s at → q ≡ boundary s at → r ≡ q
+    is-boundary-determined r q h k = determined r q h k
+
     pub test-position-determined : (r q : Tested) → r ≡ positionTest s at → q ≡ positionTest s at → r ≡ q
     test-position-determined r q h k = determined r q h k
 
     pub next-determined : (r q : Read) → r ≡ nextAt s at → q ≡ nextAt s at → r ≡ q
     next-determined r q h k = determined r q h k
+
+    pub later-determined : (r q : Read) → r ≡ laterAt s at → q ≡ laterAt s at → r ≡ q
+    later-determined r q h k = determined r q h k
 
     pub read-determined : (r q : Read) → r ≡ readAt s at → q ≡ readAt s at → r ≡ q
     read-determined r q h k = determined r q h k
