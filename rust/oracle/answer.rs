@@ -1,4 +1,4 @@
-//! The text of the answers: to standard output as it is, or folded into a hash.
+//! The text of the answers, to standard output.
 
 use std::io::{self, Write};
 
@@ -8,14 +8,12 @@ const FLUSH_AT: usize = 1 << 20;
 
 pub(crate) struct Answer {
     text: Vec<u8>,
-    digest: Option<Digest>,
 }
 
 impl Answer {
-    pub(crate) fn new(digest_every: Option<u64>) -> Self {
+    pub(crate) fn new() -> Self {
         Self {
             text: Vec::with_capacity(2 * FLUSH_AT),
-            digest: digest_every.map(Digest::new),
         }
     }
 
@@ -54,24 +52,15 @@ impl Answer {
     pub(crate) fn end_frame(&mut self) -> io::Result<()> {
         self.text.extend_from_slice(b".\n");
 
-        if let Some(digest) = &mut self.digest {
-            digest.frame(&self.text)?;
-            self.text.clear();
-        } else if self.text.len() >= FLUSH_AT {
-            self.write_out()?;
+        if self.text.len() >= FLUSH_AT {
+            self.end()?;
         }
 
         Ok(())
     }
 
+    /// Writes out what is still held back.
     pub(crate) fn end(&mut self) -> io::Result<()> {
-        match &self.digest {
-            Some(digest) => digest.print(),
-            None => self.write_out(),
-        }
-    }
-
-    fn write_out(&mut self) -> io::Result<()> {
         io::stdout().write_all(&self.text)?;
         self.text.clear();
         Ok(())
@@ -98,40 +87,5 @@ impl Answer {
         }
 
         self.text.extend_from_slice(&digits[at..]);
-    }
-}
-
-/// FNV-1a with 64 bits.
-struct Digest {
-    hash: u64,
-    frames: u64,
-    every: u64,
-}
-
-impl Digest {
-    fn new(every: u64) -> Self {
-        Self {
-            hash: 0xcbf2_9ce4_8422_2325,
-            frames: 0,
-            every,
-        }
-    }
-
-    fn frame(&mut self, text: &[u8]) -> io::Result<()> {
-        for &byte in text {
-            self.hash = (self.hash ^ u64::from(byte)).wrapping_mul(0x100_0000_01b3);
-        }
-
-        self.frames += 1;
-
-        if self.frames % self.every == 0 {
-            self.print()?;
-        }
-
-        Ok(())
-    }
-
-    fn print(&self) -> io::Result<()> {
-        writeln!(io::stdout(), "{} {:016x}", self.frames, self.hash)
     }
 }

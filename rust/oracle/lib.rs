@@ -43,9 +43,9 @@ pub fn list(source: &[u8], out: &mut Vec<[u32; 3]>) -> bool {
         .is_ok()
 }
 
-/// Answers the frames on standard input; with a number, by a digest after every so many frames.
-pub fn run(digest_every: Option<u64>) -> Result<(), String> {
-    let mut answer = Answer::new(digest_every);
+/// Answers the frames on standard input.
+pub fn run() -> Result<(), String> {
+    let mut answer = Answer::new();
     let mut input = io::BufReader::with_capacity(1 << 20, io::stdin());
     let mut payload = Vec::new();
     let mut out = Vec::new();
