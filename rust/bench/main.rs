@@ -1,6 +1,6 @@
 //! Our library beside the Rust on the same inputs in one process. bin/bench runs it and makes the table.
 //!
-//!     bench count          each side once on each input; callgrind counts, and a line names each call in order
+//!     bench count          each side once on each input; rust/bench/count counts, and a line names each call in order
 //!     bench time TURNS     the least time of so many turns, the sides taking turns
 //!
 //! A line is: call, input, kind of text, size, bytes read, side, and with `time` the nanoseconds. Different answers end it with status 1.

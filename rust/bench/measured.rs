@@ -1,4 +1,4 @@
-//! What is measured, each in a function of its own that is never inlined: callgrind counts from a name's entry to its exit.
+//! What is measured, each in a function of its own that is never inlined: rust/bench/count counts from a name's entry to its exit.
 //! A call has two of them, `measured_ours_..` and `measured_rust_..`; bin/bench counts in whatever is called so.
 
 use crate::escapes;

@@ -1,6 +1,6 @@
 """The table of bin/bench, from what it measured, and whether the bounds hold.
 
-usage: table.py FOLDER        FOLDER has `order` and the dumps counted.1, counted.2, .. in that order, and `times`
+usage: table.py FOLDER        FOLDER has `order` and the dumps counted.1, counted.2, .. in that order, and `times` where they were taken
 """
 import pathlib
 import re
@@ -26,9 +26,17 @@ def measured(folder):
     for number, (call, name, kind, size, read, side) in enumerate(rows(folder / "order"), 1):
         case = found.setdefault((call, name), {}).setdefault(int(size), {"kind": kind, "read": int(read)})
         case[side] = instructions(folder / f"counted.{number}")
-    for call, name, _, size, _, side, time in rows(folder / "times"):
+    times = folder / "times"
+    for call, name, _, size, _, side, time in rows(times) if times.exists() else []:
         found[call, name][int(size)][side + " time"] = int(time)
     return found
+
+
+def timed(case):
+    """The last three columns of a row."""
+    if "ours time" not in case:
+        return "- | - | -"
+    return f"{case['ours time']} | {case['rust time']} | {case['ours time'] / case['rust time']:.2f}"
 
 
 def main(folder):
@@ -46,7 +54,7 @@ def main(folder):
             print(
                 f"| {call} | {name} | {size} | {case['read']} | {case['ours']} | {case['rust']} | {ratio:.2f} "
                 f"| {case['ours'] / case['read']:.2f} | {case['rust'] / case['read']:.2f} "
-                f"| {case['ours time']} | {case['rust time']} | {case['ours time'] / case['rust time']:.2f} |"
+                f"| {timed(case)} |"
             )
 
     print()

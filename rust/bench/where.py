@@ -1,4 +1,4 @@
-"""Where the instructions of our side went, by function of the archive: `own` without what it calls, as callgrind dumped it.
+"""Where the instructions of our side went, by function of the archive: `own` without what it calls, as rust/bench/count has it.
 
 usage: where.py FOLDER        FOLDER has `order` and the dumps counted.1, counted.2, .. in that order
 """
