@@ -144,6 +144,16 @@ fn bodies_of(source: &str) -> Vec<Body> {
     tokens.into_iter().filter_map(body).collect()
 }
 
+fn sources(size: usize) -> [(&'static str, String); 5] {
+    [
+        ("typical rules", inputs::typical(size)),
+        ("mostly comments", inputs::comments(size)),
+        ("strings, templates", inputs::strings(size)),
+        ("operators", inputs::operators(size)),
+        ("not ASCII", inputs::not_ascii(size)),
+    ]
+}
+
 /// Each source's script with its white space dropped and kept: with the lexing, and then all without.
 fn looks(size: usize, sources: &[(&str, String)]) -> Vec<Case> {
     let mut whole = Vec::new();
@@ -166,13 +176,7 @@ fn cases() -> Vec<Case> {
     let mut cases = Vec::new();
 
     for size in SIZES {
-        let sources = [
-            ("typical rules", inputs::typical(size)),
-            ("mostly comments", inputs::comments(size)),
-            ("strings, templates", inputs::strings(size)),
-            ("operators", inputs::operators(size)),
-            ("not ASCII", inputs::not_ascii(size)),
-        ];
+        let sources = sources(size);
         let bodies = [
             ("plain text", Form::Text, inputs::plain_body(size)),
             ("text, escapes", Form::Text, inputs::text_body(size)),
