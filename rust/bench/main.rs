@@ -10,14 +10,18 @@
 mod chance;
 mod escapes;
 mod inputs;
+mod look;
 mod measured;
 
 use std::hint::black_box;
 use std::process::ExitCode;
+use std::rc::Rc;
 use std::time::Instant;
 
+use look::Look;
 use measured::{
-    measured_ours_list, measured_ours_unescape, measured_rust_list, measured_rust_unescape, Body,
+    measured_ours_list, measured_ours_look, measured_ours_look_alone, measured_ours_unescape,
+    measured_rust_list, measured_rust_look, measured_rust_look_alone, measured_rust_unescape, Body,
     Form, Room,
 };
 
@@ -28,14 +32,22 @@ const BYTES_A_TURN: usize = 65_536;
 
 /// One call on one input.
 struct Case {
-    input: &'static str,
+    input: String,
     size: usize,
     work: Work,
+}
+
+impl Case {
+    fn new(input: &str, size: usize, work: Work) -> Self {
+        Self { input: input.to_string(), size, work }
+    }
 }
 
 enum Work {
     List(Vec<u8>),
     Unescape(Vec<Body>),
+    Look(Rc<Look>),
+    LookAlone(Rc<Look>),
 }
 
 impl Work {
@@ -43,6 +55,8 @@ impl Work {
         match self {
             Work::List(..) => "list",
             Work::Unescape(..) => "unescape",
+            Work::Look(..) => "look",
+            Work::LookAlone(..) => "look alone",
         }
     }
 
@@ -50,6 +64,7 @@ impl Work {
         match self {
             Work::List(source) => vec![source],
             Work::Unescape(bodies) => bodies.iter().map(|body| &body.bytes[..]).collect(),
+            Work::Look(look) | Work::LookAlone(look) => vec![&look.source],
         }
     }
 
@@ -69,6 +84,8 @@ impl Work {
         match self {
             Work::List(source) => _ = black_box(measured_ours_list(source, room)),
             Work::Unescape(bodies) => _ = black_box(measured_ours_unescape(bodies, room)),
+            Work::Look(look) => _ = black_box(measured_ours_look(look, room)),
+            Work::LookAlone(look) => _ = black_box(measured_ours_look_alone(look, room)),
         }
     }
 
@@ -76,6 +93,8 @@ impl Work {
         match self {
             Work::List(source) => _ = black_box(measured_rust_list(source, room)),
             Work::Unescape(bodies) => _ = black_box(measured_rust_unescape(bodies, room)),
+            Work::Look(look) => _ = black_box(measured_rust_look(look, room)),
+            Work::LookAlone(look) => _ = black_box(measured_rust_look_alone(look, room)),
         }
     }
 
@@ -91,6 +110,16 @@ impl Work {
                 let ours = measured_ours_unescape(bodies, room);
                 let rusts = measured_rust_unescape(bodies, room);
                 rusts && ours.is_some_and(|count| room.same_output(count))
+            }
+            Work::Look(look) => {
+                let ours = measured_ours_look(look, room);
+                let rusts = measured_rust_look(look, room);
+                rusts && ours.is_some_and(|count| room.same_emitted(count)) && look.same_answers()
+            }
+            Work::LookAlone(look) => {
+                let ours = measured_ours_look_alone(look, room);
+                let rusts = measured_rust_look_alone(look, room);
+                rusts && ours.is_some_and(|count| room.same_emitted(count))
             }
         }
     }
@@ -115,17 +144,39 @@ fn bodies_of(source: &str) -> Vec<Body> {
     tokens.into_iter().filter_map(body).collect()
 }
 
+fn sources(size: usize) -> [(&'static str, String); 5] {
+    [
+        ("typical rules", inputs::typical(size)),
+        ("mostly comments", inputs::comments(size)),
+        ("strings, templates", inputs::strings(size)),
+        ("operators", inputs::operators(size)),
+        ("not ASCII", inputs::not_ascii(size)),
+    ]
+}
+
+/// Each source's script with its white space dropped and kept: with the lexing, and then all without.
+fn looks(size: usize, sources: &[(&str, String)]) -> Vec<Case> {
+    let mut whole = Vec::new();
+    let mut alone = Vec::new();
+
+    for (input, source) in sources {
+        for keep in [false, true] {
+            let input = format!("{input}{}", if keep { ", kept" } else { "" });
+            let look = Rc::new(Look::new(source, keep).expect("the inputs are accepted"));
+            whole.push(Case::new(&input, size, Work::Look(look.clone())));
+            alone.push(Case::new(&input, size, Work::LookAlone(look)));
+        }
+    }
+
+    whole.append(&mut alone);
+    whole
+}
+
 fn cases() -> Vec<Case> {
     let mut cases = Vec::new();
 
     for size in SIZES {
-        let sources = [
-            ("typical rules", inputs::typical(size)),
-            ("mostly comments", inputs::comments(size)),
-            ("strings, templates", inputs::strings(size)),
-            ("operators", inputs::operators(size)),
-            ("not ASCII", inputs::not_ascii(size)),
-        ];
+        let sources = sources(size);
         let bodies = [
             ("plain text", Form::Text, inputs::plain_body(size)),
             ("text, escapes", Form::Text, inputs::text_body(size)),
@@ -139,19 +190,22 @@ fn cases() -> Vec<Case> {
             ("bodies of not ASCII", bodies_of(&sources[4].1)),
         ];
 
+        let looks = looks(size, &sources);
+
         for (input, source) in sources {
             let work = Work::List(source.into_bytes());
-            cases.push(Case { input, size, work });
+            cases.push(Case::new(input, size, work));
         }
         for (input, form, body) in bodies {
             let bytes = body.into_bytes();
             let work = Work::Unescape(vec![Body { form, bytes }]);
-            cases.push(Case { input, size, work });
+            cases.push(Case::new(input, size, work));
         }
         for (input, bodies) in short {
             let work = Work::Unescape(bodies);
-            cases.push(Case { input, size, work });
+            cases.push(Case::new(input, size, work));
         }
+        cases.extend(looks);
     }
 
     cases

@@ -1,17 +1,20 @@
 //! What is measured, each in a function of its own that is never inlined: rust/bench/count counts from a name's entry to its exit.
 //! A call has two of them, `measured_ours_..` and `measured_rust_..`; bin/bench counts in whatever is called so.
 
+use std::hint::black_box;
+
 use crate::escapes;
+use crate::look::Look;
 
 /// What puffsatchel.h calls an answer.
 #[repr(C)]
 #[derive(Default)]
-struct Answer {
-    value: usize,
-    count: usize,
-    start: usize,
-    end: usize,
-    reached: usize,
+pub(crate) struct Answer {
+    pub(crate) value: usize,
+    pub(crate) count: usize,
+    pub(crate) start: usize,
+    pub(crate) end: usize,
+    pub(crate) reached: usize,
 }
 
 extern "C" {
@@ -57,6 +60,8 @@ pub(crate) struct Room {
     our_bytes: Vec<u8>,
     text: String,
     bytes: Vec<u8>,
+    our_emitted: Vec<u32>,
+    emitted: oracle::Emitted,
 }
 
 impl Room {
@@ -68,6 +73,8 @@ impl Room {
             our_bytes: vec![0; LARGEST],
             text: String::with_capacity(LARGEST),
             bytes: Vec::with_capacity(LARGEST),
+            our_emitted: vec![0; 3 * LARGEST],
+            emitted: oracle::Emitted::with_room(LARGEST),
         }
     }
 
@@ -80,14 +87,23 @@ impl Room {
     pub(crate) fn same_output(&self, count: (usize, usize)) -> bool {
         self.our_text[..count.0] == *self.text.as_bytes() && self.our_bytes[..count.1] == self.bytes
     }
+
+    /// After both sides have run a script; `count` is ours, of words.
+    pub(crate) fn same_emitted(&self, count: usize) -> bool {
+        self.emitted.words().flatten().eq(self.our_emitted[..count].iter().copied())
+    }
 }
 
 /// Answers the count of tokens, or none where the source is refused.
 #[no_mangle]
 #[inline(never)]
 pub(crate) fn measured_ours_list(source: &[u8], room: &mut Room) -> Option<usize> {
+    our_list(source, &mut room.store)
+}
+
+#[inline]
+fn our_list(source: &[u8], store: &mut [u32]) -> Option<usize> {
     let mut answer = Answer::default();
-    let store = &mut room.store;
     // SAFETY: each pointer is of as many elements as the number beside it says, and nothing overlaps.
     let refused = unsafe {
         puffsatchel_list(
@@ -153,4 +169,31 @@ pub(crate) fn measured_rust_unescape(bodies: &[Body], room: &mut Room) -> bool {
         Form::Template => escapes::scalars(&body.bytes, true, &mut room.text),
         Form::ByteText => escapes::bytes(&body.bytes, &mut room.bytes),
     })
+}
+
+/// Listed and looked at; answers how many words were emitted, or none where the source or a call is refused.
+#[no_mangle]
+#[inline(never)]
+pub(crate) fn measured_ours_look(look: &Look, room: &mut Room) -> Option<usize> {
+    let count = our_list(&look.source, &mut room.store)?;
+    look.run(&room.store[..3 * count], &mut room.our_emitted, |_, answer| _ = black_box(answer))
+}
+
+#[no_mangle]
+#[inline(never)]
+pub(crate) fn measured_rust_look(look: &Look, room: &mut Room) -> bool {
+    look.rusts.over_source(&look.source, &mut room.emitted)
+}
+
+/// Looked at alone: the list is made before.
+#[no_mangle]
+#[inline(never)]
+pub(crate) fn measured_ours_look_alone(look: &Look, room: &mut Room) -> Option<usize> {
+    look.run(&look.list, &mut room.our_emitted, |_, answer| _ = black_box(answer))
+}
+
+#[no_mangle]
+#[inline(never)]
+pub(crate) fn measured_rust_look_alone(look: &Look, room: &mut Room) -> bool {
+    look.rusts.over_tokens(&mut room.emitted)
 }

@@ -8,6 +8,8 @@ import sys
 
 # Ours over the Rust's, by instructions: what the project must keep.
 BOUNDS = {"ascii": 1.0, "wide": 1.1}
+# Says what a part of another call costs, and has no bound of its own.
+UNBOUND = {"look alone"}
 # Cost a byte at 64 KiB over that at 1 KiB: above this it is no longer flat.
 FLAT = 1.1
 
@@ -49,7 +51,7 @@ def main(folder):
         for size, case in sizes.items():
             ratio = case["ours"] / case["rust"]
             bound = BOUNDS[case["kind"]]
-            if ratio > bound:
+            if ratio > bound and call not in UNBOUND:
                 broken.append(f"{call}, {name}, {size}: {ratio:.3f} of the Rust's instructions, and at most {bound} are allowed")
             print(
                 f"| {call} | {name} | {size} | {case['read']} | {case['ours']} | {case['rust']} | {ratio:.2f} "

@@ -10,11 +10,12 @@ use crate::ast::{Kind, Span, Token};
 pub(crate) mod parser {
     include!(concat!(env!("PUFFSATCHEL_RUST"), "/src/grammar/parser.rs"));
 
-    // Inside the parser's module, since `fill` is private there.
+    // Inside the parser's module, since `fill` and the builder are private there.
+    pub(crate) mod look;
     pub(crate) mod script;
 }
 
-pub(crate) use self::parser::script;
+pub(crate) use self::parser::{look, script};
 
 macro_rules! kinds_1_to_4 {
     () => {

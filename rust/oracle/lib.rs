@@ -23,6 +23,7 @@ use frame::{next_frame, Malformed};
 use grammar::script;
 
 pub use ast::body::{unescape, Form};
+pub use grammar::look::{Emitted, Look};
 pub use grammar::script::each_call;
 pub use listing::{list_words, text};
 pub use numbers::Refusal;

@@ -41,6 +41,18 @@ impl<T, F> Builder<T, F> {
         }
     }
 
+    /// One whose tokens go behind those given, into their room.
+    pub fn over(tokens: Vec<(T, Span)>) -> Self {
+        Self {
+            tokens,
+            flavor: PhantomData,
+        }
+    }
+
+    pub fn into_tokens(self) -> Vec<(T, Span)> {
+        self.tokens
+    }
+
     pub fn token_with(&mut self, value: T, span: Span) -> Result<(), Error> {
         self.tokens.push((value, span));
         Ok(())
