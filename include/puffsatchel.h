@@ -20,7 +20,7 @@ extern "C" {
 #endif
 
 /* The version of this page; puffsatchel_version() is that of the archive. */
-#define PUFFSATCHEL_VERSION 1
+#define PUFFSATCHEL_VERSION 2
 
 /* Sizes, for memory that is always enough. */
 enum {
@@ -230,42 +230,51 @@ typedef struct puffsatchel_ahead {
 /* Does not compile where the state has another size than in the archive. */
 typedef char puffsatchel_ahead_size[sizeof(puffsatchel_ahead) == PUFFSATCHEL_AHEAD_BYTES ? 1 : -1];
 
-/* fill reads until n + 1 tokens are held or the list ends. nth gives the kind of the n-th token (peek: n is 0), nth_token its span too, glued its
- * kind only where no white space stands before it, else 67; is_eof gives 1 at the end, else 0. Past the end every token is 67, a point there.
- * All in value, start and end. Refuse with 34, 30, 31, and then leave the state as it was. */
-uint32_t puffsatchel_fill(puffsatchel_ahead *state, size_t n, const uint32_t *list, size_t list_len, puffsatchel_answer *answer);
-uint32_t puffsatchel_peek(puffsatchel_ahead *state, const uint32_t *list, size_t list_len, puffsatchel_answer *answer);
-uint32_t puffsatchel_nth(puffsatchel_ahead *state, size_t n, const uint32_t *list, size_t list_len, puffsatchel_answer *answer);
-uint32_t puffsatchel_nth_token(puffsatchel_ahead *state, size_t n, const uint32_t *list, size_t list_len, puffsatchel_answer *answer);
-uint32_t puffsatchel_glued(puffsatchel_ahead *state, size_t n, const uint32_t *list, size_t list_len, puffsatchel_answer *answer);
-uint32_t puffsatchel_is_eof(puffsatchel_ahead *state, const uint32_t *list, size_t list_len, puffsatchel_answer *answer);
+/* With tested = 0 each call tests the list and the state first, and refuses with 34 what is faulty; that costs the list's length at each call.
+ * With another number they were tested before, and are not again: the list is one that puffsatchel_list wrote, or that puffsatchel_store or
+ * puffsatchel_load has accepted, and the state a fresh one, or one that these calls left over this list. On any other list or state the calls
+ * answer too, and touch no word outside of what is lent; but of its faults only numbers outside the rings and the list are refused with 34.
+ *
+ * These six write nothing but the state. They refuse with 34, 30, 31, and then leave it as it was. Past the end every token is 67, a point there. */
 
-/* These write what they emit, three words a token, from the first word of out on; count is of tokens. bump emits the next token with the white
- * space before it, and gives its kind and span; at the end it emits an end-of-file token each time. bump_if and bump_while emit only tokens of a
- * kind: value is 1 if any was. advance emits n that are held. flush_ws emits the white space before the next token, and gives a point at that.
- * array writes the next n tokens and emits none of them.
- * Refuse with 34, 30, 31, 32, 33, and then leave state and out as they were. Later words are unchanged. */
-uint32_t puffsatchel_flush_ws(puffsatchel_ahead *state, const uint32_t *list, size_t list_len, uint32_t *out, size_t out_len, puffsatchel_answer *answer);
-uint32_t puffsatchel_bump(puffsatchel_ahead *state, const uint32_t *list, size_t list_len, uint32_t *out, size_t out_len, puffsatchel_answer *answer);
-uint32_t puffsatchel_bump_if(puffsatchel_ahead *state, uint32_t kind, const uint32_t *list, size_t list_len, uint32_t *out, size_t out_len, puffsatchel_answer *answer);
-uint32_t puffsatchel_bump_while(puffsatchel_ahead *state, uint32_t kind, const uint32_t *list, size_t list_len, uint32_t *out, size_t out_len, puffsatchel_answer *answer);
-uint32_t puffsatchel_advance(puffsatchel_ahead *state, size_t n, const uint32_t *list, size_t list_len, uint32_t *out, size_t out_len, puffsatchel_answer *answer);
-uint32_t puffsatchel_array(puffsatchel_ahead *state, size_t n, const uint32_t *list, size_t list_len, uint32_t *out, size_t out_len, puffsatchel_answer *answer);
+/* Reads until n + 1 tokens are held or the list ends. */
+uint32_t puffsatchel_fill(puffsatchel_ahead *state, uint32_t tested, size_t n, const uint32_t *list, size_t list_len, puffsatchel_answer *answer);
 
-/* The same for a list that puffsatchel_list wrote, or that puffsatchel_store or puffsatchel_load has accepted: the list is not tested again, which
- * would cost its length at each call. On any other list they answer too, and read no word outside it; but its faults are not refused with 34. */
-uint32_t puffsatchel_tested_fill(puffsatchel_ahead *state, size_t n, const uint32_t *list, size_t list_len, puffsatchel_answer *answer);
-uint32_t puffsatchel_tested_peek(puffsatchel_ahead *state, const uint32_t *list, size_t list_len, puffsatchel_answer *answer);
-uint32_t puffsatchel_tested_nth(puffsatchel_ahead *state, size_t n, const uint32_t *list, size_t list_len, puffsatchel_answer *answer);
-uint32_t puffsatchel_tested_nth_token(puffsatchel_ahead *state, size_t n, const uint32_t *list, size_t list_len, puffsatchel_answer *answer);
-uint32_t puffsatchel_tested_glued(puffsatchel_ahead *state, size_t n, const uint32_t *list, size_t list_len, puffsatchel_answer *answer);
-uint32_t puffsatchel_tested_is_eof(puffsatchel_ahead *state, const uint32_t *list, size_t list_len, puffsatchel_answer *answer);
-uint32_t puffsatchel_tested_flush_ws(puffsatchel_ahead *state, const uint32_t *list, size_t list_len, uint32_t *out, size_t out_len, puffsatchel_answer *answer);
-uint32_t puffsatchel_tested_bump(puffsatchel_ahead *state, const uint32_t *list, size_t list_len, uint32_t *out, size_t out_len, puffsatchel_answer *answer);
-uint32_t puffsatchel_tested_bump_if(puffsatchel_ahead *state, uint32_t kind, const uint32_t *list, size_t list_len, uint32_t *out, size_t out_len, puffsatchel_answer *answer);
-uint32_t puffsatchel_tested_bump_while(puffsatchel_ahead *state, uint32_t kind, const uint32_t *list, size_t list_len, uint32_t *out, size_t out_len, puffsatchel_answer *answer);
-uint32_t puffsatchel_tested_advance(puffsatchel_ahead *state, size_t n, const uint32_t *list, size_t list_len, uint32_t *out, size_t out_len, puffsatchel_answer *answer);
-uint32_t puffsatchel_tested_array(puffsatchel_ahead *state, size_t n, const uint32_t *list, size_t list_len, uint32_t *out, size_t out_len, puffsatchel_answer *answer);
+/* The kind of the next token, in value. */
+uint32_t puffsatchel_peek(puffsatchel_ahead *state, uint32_t tested, const uint32_t *list, size_t list_len, puffsatchel_answer *answer);
+
+/* The kind of the n-th token from the next one on, in value. */
+uint32_t puffsatchel_nth(puffsatchel_ahead *state, uint32_t tested, size_t n, const uint32_t *list, size_t list_len, puffsatchel_answer *answer);
+
+/* The same with its span, in start and end. */
+uint32_t puffsatchel_nth_token(puffsatchel_ahead *state, uint32_t tested, size_t n, const uint32_t *list, size_t list_len, puffsatchel_answer *answer);
+
+/* The kind of the n-th token where no white space stands before it, else 67. With white space dropped none stands there. */
+uint32_t puffsatchel_glued(puffsatchel_ahead *state, uint32_t tested, size_t n, const uint32_t *list, size_t list_len, puffsatchel_answer *answer);
+
+/* 1 in value where no token is left, else 0. */
+uint32_t puffsatchel_is_eof(puffsatchel_ahead *state, uint32_t tested, const uint32_t *list, size_t list_len, puffsatchel_answer *answer);
+
+/* These write what they emit, three words a token, from the first word of out on; count is of written tokens. They refuse with 34, 31 and 33 (out
+ * is short), and then leave state and out as they were. Later words are unchanged. */
+
+/* Emits the white space before the next token, or before the list's end; start and end are a point there. */
+uint32_t puffsatchel_flush_ws(puffsatchel_ahead *state, uint32_t tested, const uint32_t *list, size_t list_len, uint32_t *out, size_t out_len, puffsatchel_answer *answer);
+
+/* Emits the next token behind the white space before it, and gives its kind and span; at the end an end-of-file token, each time. */
+uint32_t puffsatchel_bump(puffsatchel_ahead *state, uint32_t tested, const uint32_t *list, size_t list_len, uint32_t *out, size_t out_len, puffsatchel_answer *answer);
+
+/* Does so if the next token is of the kind: value is 1 then, else 0. */
+uint32_t puffsatchel_bump_if(puffsatchel_ahead *state, uint32_t tested, uint32_t kind, const uint32_t *list, size_t list_len, uint32_t *out, size_t out_len, puffsatchel_answer *answer);
+
+/* Does so as long as the next token is of the kind: value is 1 if any was. For kind 67 at the end, where it would never stop, 33. */
+uint32_t puffsatchel_bump_while(puffsatchel_ahead *state, uint32_t tested, uint32_t kind, const uint32_t *list, size_t list_len, uint32_t *out, size_t out_len, puffsatchel_answer *answer);
+
+/* Emits n tokens that are held, each behind the white space before it, and reads none. 32 (and not 31) where fewer are held. */
+uint32_t puffsatchel_advance(puffsatchel_ahead *state, uint32_t tested, size_t n, const uint32_t *list, size_t list_len, uint32_t *out, size_t out_len, puffsatchel_answer *answer);
+
+/* Writes the next n tokens and emits none of them: they stay. 30 where n is above 8. */
+uint32_t puffsatchel_array(puffsatchel_ahead *state, uint32_t tested, size_t n, const uint32_t *list, size_t list_len, uint32_t *out, size_t out_len, puffsatchel_answer *answer);
 
 #ifdef __cplusplus
 }

@@ -1,6 +1,6 @@
 """What tools/spread.py and tools/pass.py share: walks that are written from a template, one for each shape of a call, and proofs that cite one.
 
-A call takes the lookahead's state and a list; its shape says what else: `n` a number, `o` a store. In a template `⟦n ..⟧` and `⟦o ..⟧` stand in
+A call takes the lookahead's state, a flag and a list; its shape says what else: `n` a number, `o` a store. In a template `⟦n ..⟧` and `⟦o ..⟧` stand in
 the shapes with a number, with a store; `⟦+ ..⟧` once for each array, `⟦- ..⟧` in reverse, `⟦* ..⟧` for each local, `⟦/ ..⟧` in reverse; `#x` is
 a number of the shape, array or local; `⟨ | ⟩` a tuple, `⟪ | ⟫` its type.
 The walk names what it has: `@x` is the place of x there, and `‹law x y > z›` brings x and y to the front and leaves z.
@@ -8,7 +8,30 @@ The walk names what it has: `@x` is the place of x there, and `‹law x y > z›
 import os
 import re
 
+from uses import use_lines
+
 SHAPES = {'': 'OfList', 'n': 'OfNList', 'o': 'OfListOut', 'no': 'OfNListOut'}
+CALLS = {  # what it calls in the crate looks, the definition, the shape, and the width of the number
+    'fill': ('show.fill_at', 'fillBy', 'n', 'w64'),
+    'peek': ('show.peek_at', 'nthBy', '', ''),
+    'nth': ('show.nth_at', 'nthBy', 'n', 'w64'),
+    'nth_token': ('show.nth_token_at', 'nthTokenBy', 'n', 'w64'),
+    'glued': ('show.glued_at', 'gluedBy', 'n', 'w64'),
+    'is_eof': ('show.is_eof_at', 'isEofBy', '', ''),
+    'flush_ws': ('emits.flush_at', 'flushBy', 'o', ''),
+    'bump': ('emits.bump_at', 'bumpBy', 'o', ''),
+    'bump_if': ('emits.bump_if_at', 'bumpIfBy', 'no', 'w32'),
+    'bump_while': ('whiles.bump_while_at', 'bumpWhileBy', 'no', 'w32'),
+    'advance': ('emits.advance_at', 'advanceBy', 'no', 'w64'),
+    'array': ('emits.array_at', 'arrayBy', 'no', 'w64'),
+}
+
+
+def meant(call):
+    """A call's definition, of the state, the flag, the number, the list and the store on entry."""
+    _, definition, shape, _ = CALLS[call]
+    n, o = 'n' in shape, 'o' in shape
+    return f"λ s t{' n' * n} l{' o' * o}. {definition} t l{' n' if n else ' 0' * (call == 'peek')}{' (length o)' * o} s"
 
 
 def module(crate, path, part='proofs'):
@@ -90,8 +113,12 @@ def opened(crate, folder, head, names):
     open(f'crates/{crate}/proofs/{folder}.antt', 'w').write(f'-- {head}\n{mods}\n')
 
 
-def cite(crate, function, walk, meets, given, callees, made):
-    """A function's Proof.antt: the walk's `meets`, given its arguments and what each callee, by a short name, meets."""
+def cite(crate, function, call, walks, meets, callees):
+    """A function's Proof.antt: the `meets` of the walk of its shape, given the call's definition and what each callee, by a short name, meets."""
+    _, _, shape, width = CALLS[call]
+    walk, F = f'{walks}.{SHAPES[shape]}', meant(call)
+    given = f"{width}{' ' if width else ''}{' '.join(f'{x}-def.name' for x in callees)} ({F})"
+    made = ([f'use mir.Syntax.{{{width}}}'] if width else []) + use_lines(F, crate, 'proofs', '')
     own, name = module(crate, f'{crate}.{function}'), function.split('.')[-1].replace('_', '-')
     uses, cites = '', ''
     for short, callee in callees.items():

@@ -1,20 +1,17 @@
 -- Any two results that a call's promise allows are equal: the state, the answer and the store. Assumes nothing.
 use Prim.Native.Nat.{ℕ}
-use mathlib.Core.Path.{_≡_, ap}
+use mathlib.Core.Path.{_≡_}
 use mathlib.Core.List.{List}
 use mathlib.Core.Bool.{Bool}
 use lib.Seq.{sets}
-use Rattle.emitted.specs.Sequence.{Call, testedTurn, turnOf}
+use Rattle.emitted.specs.Sequence.{Call, turnOf}
 use Rattle.laws.proofs.Determined.{determined}
-use Rattle.lookahead.specs.View.{freshBy, viewOf}
-use Rattle.lookahead.specs.declared.ahead.Ahead.{Ahead}
+use Rattle.ahead.proofs.Lent.{lent}
+use Rattle.ahead.specs.View.{freshBy, viewOf}
+use Rattle.ahead.specs.declared.Ahead.{Ahead}
 use Rattle.looks.specs.Buffer.{State}
 use Rattle.looks.specs.Calls.{Turn}
 use Rattle.looks.specs.declared.look.Looked.{Looked}
-
--- what is lent is told by its view
-lent : (a b : Ahead) → viewOf a ≡ viewOf b → a ≡ b
-lent a b e = ap (λ (st : State). record { nums = st .nums; held = st .held; counts = st .counts; waiting = st .waiting }) e
 
 pub new-determined : (keep : Bool) (a b : Ahead) → viewOf a ≡ freshBy keep → viewOf b ≡ freshBy keep → a ≡ b
 new-determined keep a b h k = lent a b (determined (viewOf a) (viewOf b) h k)
@@ -26,9 +23,6 @@ Promised t out a r v = (viewOf a ≡ t .state) × (r ≡ t .answer) × (v ≡ se
 turn-determined : (t : Turn) (out : List ℕ) (a b : Ahead) (r q : Looked) (v w : List ℕ) → Promised t out a r v → Promised t out b q w → (a ≡ b) × (r ≡ q) × (v ≡ w)
 turn-determined t out a b r q v w h k = (lent a b (determined (viewOf a) (viewOf b) (h .0) (k .0)), determined r q (h .1) (k .1), determined v w (h .2) (k .2))
 
-module _ (l : List ℕ) (call : Call) (st : State) (out : List ℕ) (a b : Ahead) (r q : Looked) (v w : List ℕ) where
-  pub call-determined : Promised (turnOf l call st) out a r v → Promised (turnOf l call st) out b q w → (a ≡ b) × (r ≡ q) × (v ≡ w)
-  call-determined h k = turn-determined (turnOf l call st) out a b r q v w h k
-
-  pub tested-determined : Promised (testedTurn l call st) out a r v → Promised (testedTurn l call st) out b q w → (a ≡ b) × (r ≡ q) × (v ≡ w)
-  tested-determined h k = turn-determined (testedTurn l call st) out a b r q v w h k
+module _ (t : ℕ) (l : List ℕ) (call : Call) (st : State) (out : List ℕ) (a b : Ahead) (r q : Looked) (v w : List ℕ) where
+  pub call-determined : Promised (turnOf t l call st) out a r v → Promised (turnOf t l call st) out b q w → (a ≡ b) × (r ≡ q) × (v ≡ w)
+  call-determined h k = turn-determined (turnOf t l call st) out a b r q v w h k

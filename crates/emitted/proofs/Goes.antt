@@ -7,15 +7,15 @@ use native.Mathlib.Omega.{arith}
 use lib.Dec.{eqb, leb, ltb}
 use lib.ListN.{getD, length}
 use borrow.Author.Tests.{eqb-true, leb-true, ne-eqb}
-use Rattle.emitted.proofs.Stays.{Sound, sound-bumped, sound-flushed, sound-gather, sound-is}
+use Rattle.emitted.proofs.Stays.{Sound, sound-bumped, sound-flushed, sound-gather}
 use Rattle.emitted.proofs.Views.{bump-nums}
-use Rattle.emitted.specs.Sequence.{Call, advances, arrays, bumps, bumpsIf, bumpsWhile, emittedBy, ends, fills, flushes, glues, nths, testedTurn, tokens}
+use Rattle.emitted.specs.Sequence.{Call, advances, arrays, bumps, bumpsIf, bumpsWhile, emittedBy, ends, fills, flushes, glues, nths, tokens, turnOf}
 use Rattle.laws.proofs.Cases.{both-inv, split, split-eq, split-le}
 use Rattle.laws.specs.Bools.{pick}
 use Rattle.looks.proofs.Advances.{advance-none, array-none, less-facts}
 use Rattle.looks.proofs.Answers.{refusal-none}
 use Rattle.looks.proofs.Gathers.{gather-held}
-use Rattle.looks.proofs.Running.{plan-inv, while-planned}
+use Rattle.looks.proofs.Running.{plan-inv, while-planned, while-sound}
 use Rattle.looks.specs.Buffer.{State, fill, fits, fitsFor, gather, gatherAt, gatherNums, gathers}
 use Rattle.looks.specs.Calls.{Turn, advanceBy, advanceRefusal, advanceTurn, advanceWords, advanced, arrayBy, arrayRefusal, arrayTurn, bumpAnswer, bumpBy, bumpIfBy, bumped, fillBy, fillRefusal, filledBy, flushBy, flushTurn, flushed, frontTurn, gluedBy, gluedKind, isEofBy, nthBy, nthTokenBy, refuses, shows, storedBy, unless}
 use Rattle.looks.specs.Front.{frontWords, nthOf, whiteOf, whiteWords, yes}
@@ -101,8 +101,8 @@ module _ (l : List ℕ) (R : State → List ℕ → State → Type 0) (r : Kept 
   by-pick false st t u g h = h
 
   -- what is asked of the filled state
-  by-filled : (n : ℕ) (st : State) (t : Turn) → Sound l st → (Goes st [] (fill l n st) → GoesBy st t) → GoesBy st (unless (fillRefusal l n st) st t)
-  by-filled n st t s g = by-unless (fillRefusal l n st) st t s (λ e. let h = refusal-none l n st e in g (goes-fill n st s (h .1) (h .2)))
+  by-filled : (q n : ℕ) (st : State) (t : Turn) → Sound l st → (Goes st [] (fill l n st) → GoesBy st t) → GoesBy st (unless (fillRefusal q l n st) st t)
+  by-filled q n st t s g = by-unless (fillRefusal q l n st) st t s (λ e. let h = refusal-none q l n st e in g (goes-fill n st s (h .1) (h .2)))
 
   goes-flush : (st : State) → Goes st [] (fill l 0 st) → Goes st (whiteWords l (fill l 0 st)) (flushed (fill l 0 st))
   goes-flush st g = let f = fill l 0 st in then st [] f (whiteWords l f) (flushed f) g (λ s. (sound-flushed l f s, r .flushing f s))
@@ -110,44 +110,44 @@ module _ (l : List ℕ) (R : State → List ℕ → State → Type 0) (r : Kept 
   goes-front : (st : State) → Goes st [] (fill l 0 st) → Goes st (frontWords l (fill l 0 st)) (bumped (fill l 0 st))
   goes-front st g = let f = fill l 0 st in then st [] f (frontWords l f) (bumped f) g (goes-bump f)
 
-  goes-array : (n : ℕ) (st : State) → Sound l st → arrayRefusal l n st ≡ 0 → Goes st [] (gathers l (n - st .nums .«held_len») st)
+  goes-array : (q n : ℕ) (st : State) → Sound l st → arrayRefusal q l n st ≡ 0 → Goes st [] (gathers l (n - st .nums .«held_len») st)
   unfolding arrayRefusal gathers
-  goes-array n st s e =
+  goes-array q n st s e =
       split-eq n 0
       (λ z. let none : n - st .nums .«held_len» ≡ 0 = omega arith in rw none (stays st s))
       (λ z.
-      let h = refusal-none l (n - 1) st (rw (ne-eqb n 0 z) at e) in
+      let h = refusal-none q l (n - 1) st (rw (ne-eqb n 0 z) at e) in
       let one : n - 1 + 1 ≡ n = omega (arith, z) in
       rw one at (goes-fill (n - 1) st s (h .1) (h .2)))
 
-  pub goes : (call : Call) (st : State) → Sound l st → Goes st (emittedBy call (testedTurn l call st)) (testedTurn l call st .state)
+  pub goes : (q : ℕ) (call : Call) (st : State) → Sound l st → Goes st (emittedBy call (turnOf q l call st)) (turnOf q l call st .state)
   unfolding fillBy nthBy nthTokenBy gluedBy isEofBy flushBy bumpBy bumpIfBy bumpWhileBy advanceBy arrayBy
-  goes (fills n) st s = let f = fill l n st in by-filled n st (shows 0 f) s (λ g. g)
-  goes (nths n) st s = let f = fill l n st in by-filled n st (shows (getD (nthOf l n f) 0 0) f) s (λ g. g)
-  goes (tokens n) st s = let f = fill l n st in by-filled n st (record { state = f; answer = Done 0 (getD (nthOf l n f) 0 0) (getD (nthOf l n f) 1 0) (getD (nthOf l n f) 2 0); written = [] }) s (λ g. g)
-  goes (glues n) st s = let f = fill l n st in by-filled n st (shows (gluedKind l n (f .nums) (f .held) (f .counts)) f) s (λ g. g)
-  goes ends st s = let f = fill l 0 st in by-filled 0 st (shows (yes (eqb (getD (nthOf l 0 f) 0 0) 67)) f) s (λ g. g)
-  goes (flushes room) st s =
+  goes q (fills n) st s = let f = fill l n st in by-filled q n st (shows 0 f) s (λ g. g)
+  goes q (nths n) st s = let f = fill l n st in by-filled q n st (shows (getD (nthOf l n f) 0 0) f) s (λ g. g)
+  goes q (tokens n) st s = let f = fill l n st in by-filled q n st (record { state = f; answer = Done 0 (getD (nthOf l n f) 0 0) (getD (nthOf l n f) 1 0) (getD (nthOf l n f) 2 0); written = [] }) s (λ g. g)
+  goes q (glues n) st s = let f = fill l n st in by-filled q n st (shows (gluedKind l n (f .nums) (f .held) (f .counts)) f) s (λ g. g)
+  goes q ends st s = let f = fill l 0 st in by-filled q 0 st (shows (yes (eqb (getD (nthOf l 0 f) 0 0) 67)) f) s (λ g. g)
+  goes q (flushes room) st s =
       let t = flushTurn l (fill l 0 st) in
-      by-filled 0 st (storedBy room st t) s (λ g. by-stored room st t s (goes-flush st g))
-  goes (bumps room) st s =
+      by-filled q 0 st (storedBy room st t) s (λ g. by-stored room st t s (goes-flush st g))
+  goes q (bumps room) st s =
       let f = fill l 0 st in
       let t = frontTurn l (bumpAnswer (whiteOf f) (nthOf l 0 f)) f in
-      by-filled 0 st (storedBy room st t) s (λ g. by-stored room st t s (goes-front st g))
-  goes (bumpsIf kind room) st s =
+      by-filled q 0 st (storedBy room st t) s (λ g. by-stored room st t s (goes-front st g))
+  goes q (bumpsIf kind room) st s =
       let f = fill l 0 st in
       let t = frontTurn l (Done (whiteOf f + 1) 1 0 0) f in
       let is = eqb (getD (nthOf l 0 f) 0 0) kind in
-      by-filled 0 st (storedBy room st (pick is t (shows 0 f))) s
+      by-filled q 0 st (storedBy room st (pick is t (shows 0 f))) s
       (λ g. by-stored room st (pick is t (shows 0 f)) s (by-pick is st t (shows 0 f) (goes-front st g) g))
-  goes (bumpsWhile kind room) st s =
-      by-unless (whileRefusal l kind st) st (storedBy room st (whileTurn (whileRun l kind st))) s
+  goes q (bumpsWhile kind room) st s =
+      by-unless (whileRefusal q l kind st) st (storedBy room st (whileTurn (whileRun l kind st))) s
       (λ e.
-      let p = plan-inv l kind 0 (tokensLeft l (st .nums)) st (while-planned l kind st (sound-is l st s) (whilePlan l kind st) refl ∙ e) in
+      let p = plan-inv l kind 0 (tokensLeft l (st .nums)) st (while-planned q l kind st (while-sound q l kind st e) (whilePlan l kind st) refl ∙ e) in
       by-stored room st (whileTurn (whileRun l kind st)) s
       (then st [] (fill l 0 st) (whileRun l kind st .written) (whileRun l kind st .state) (goes-fill 0 st s (omega arith) (p .0))
       (λ s₁. goes-run kind (tokensLeft l (st .nums)) (fill l 0 st) s₁ (p .1))))
-  goes (advances n room) st s = by-unless (advanceRefusal l n st) st (storedBy room st (advanceTurn l n st)) s (λ e. by-stored room st (advanceTurn l n st) s (goes-advance n st s))
-  goes (arrays n room) st s =
-      may-refuse (λ t. []) (λ number st. refl) (arrayRefusal l n st) st (storedBy room st (arrayTurn l n (gathers l (n - st .nums .«held_len») st))) s
-      (λ e. may-lack (λ t. []) (λ number st. refl) room st (arrayTurn l n (gathers l (n - st .nums .«held_len») st)) s (goes-array n st s e))
+  goes q (advances n room) st s = by-unless (advanceRefusal q l n st) st (storedBy room st (advanceTurn l n st)) s (λ e. by-stored room st (advanceTurn l n st) s (goes-advance n st s))
+  goes q (arrays n room) st s =
+      may-refuse (λ t. []) (λ number st. refl) (arrayRefusal q l n st) st (storedBy room st (arrayTurn l n (gathers l (n - st .nums .«held_len») st))) s
+      (λ e. may-lack (λ t. []) (λ number st. refl) room st (arrayTurn l n (gathers l (n - st .nums .«held_len») st)) s (goes-array q n st s e))

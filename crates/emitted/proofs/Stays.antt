@@ -4,7 +4,7 @@ use mathlib.Core.Path.{_≡_, refl, sym, ap, ap₂, _∙_}
 use mathlib.Core.List.{List, [], _∷_, _++_}
 use mathlib.Core.Bool.{true, false}
 use native.Mathlib.Omega.{arith}
-use lib.Dec.{eqb, leb}
+use lib.Dec.{eqb, leb, ltb}
 use lib.ListN.{getD, length, length-set}
 use borrow.Author.Tests.{eq-eqb, le-leb, le-ltb, lt-ltb}
 use Rattle.emitted.proofs.Rises.{ascends-rises, cons-rises, rises, rises-append, rises-behind, rises-none, rises-range, rises-top, sum-total, total, total-append, total-one}
@@ -21,7 +21,7 @@ use Rattle.looks.specs.Buffer.{State, gather, gatherAt, gatherNums, gatherTo, w
 use Rattle.looks.specs.Calls.{bumped, flushed}
 use Rattle.looks.specs.Front.{frontWhite, lessHeld, lessWaiting, whiteOf}
 use Rattle.looks.specs.Numbered.{dark, darkFrom, isWhite, kindAt, tokenCount}
-use Rattle.looks.specs.Sound.{ascendsBy, boundedBy, countSum, soundBy}
+use Rattle.looks.specs.Sound.{ascendsBy, boundedBy, countSum, orderedBy, soundBy, wholeBy}
 use Rattle.looks.specs.declared.state.Nums.{Nums}
 
 pub record Sound (l : List ℕ) (st : State) : Type 0 where
@@ -35,35 +35,39 @@ module _ (l : List ℕ) (st : State) where
   abbrev m : Nums
   m = st .nums
 
-  pub sound-of : Sized st → soundBy l st ≡ true → Sound l st
-  unfolding soundBy
+  pub sound-of : Sized st → soundBy 0 l st ≡ true → (wholeBy l ≡ true) × Sound l st
+  unfolding soundBy orderedBy
   sound-of z s =
-      let a = both-inv (boundedBy l m) _ s .1 in
-      let b = both-inv (ascendsBy false l 8 (st .held) (m .«held_len») (m .«held_at») 0 (m .next)) _ a in
-      let d = both-inv (ascendsBy true l 256 (st .waiting) (m .«wait_len») (m .«wait_at») 0 (m .next)) _ (b .1) in
-      let sum = sound-sum l st s in
-      record {
-        sized = z;
-        bounded = sound-bounded l st s;
-        held = sym (ascends-rises false l 8 (st .held) (m .«held_len») (m .«held_at») 0 (m .next)) ∙ b .0;
-        waits = sym (ascends-rises true l 256 (st .waiting) (m .«wait_len») (m .«wait_at») 0 (m .next)) ∙ d .0;
-        sum = omega (arith, sum-total (st .counts) (m .«held_len») (m .«held_at»));
-      }
+      let a = both-inv (both (boundedBy l m) _) (both (wholeBy l) (orderedBy l st)) s .1 in
+      let b = both-inv (wholeBy l) (orderedBy l st) a in
+      let d = both-inv (ascendsBy false l 8 (st .held) (m .«held_len») (m .«held_at») 0 (m .next)) _ (b .1) in
+      let sum = sound-sum 0 l st s in (
+        b .0,
+        record {
+          sized = z;
+          bounded = sound-bounded 0 l st s;
+          held = sym (ascends-rises false l 8 (st .held) (m .«held_len») (m .«held_at») 0 (m .next)) ∙ d .0;
+          waits = sym (ascends-rises true l 256 (st .waiting) (m .«wait_len») (m .«wait_at») 0 (m .next)) ∙ d .1;
+          sum = omega (arith, sum-total (st .counts) (m .«held_len») (m .«held_at»));
+        },
+      )
 
   bounded-yes : Bounded l m → boundedBy l m ≡ true
   unfolding boundedBy
   bounded-yes b =
       rw (le-leb _ _ (b .held-few), le-leb _ _ (b .wait-few), lt-ltb _ _ (b .held-in), lt-ltb _ _ (b .wait-in), le-leb _ _ (b .reach))
 
-  pub sound-is : Sound l st → soundBy l st ≡ true
-  unfolding soundBy
-  sound-is s =
+  pub sound-is : wholeBy l ≡ true → Sound l st → (t : ℕ) → soundBy t l st ≡ true
+  unfolding soundBy orderedBy
+  sound-is w s t =
       let sum = s .sum in
       rw (
         bounded-yes (s .bounded),
+        le-leb (countSum (st .counts) (m .«held_len») (m .«held_at»)) (m .«wait_len») (omega (arith, sum-total (st .counts) (m .«held_len») (m .«held_at»))),
+        w,
         ascends-rises false l 8 (st .held) (m .«held_len») (m .«held_at») 0 (m .next) ∙ s .held,
         ascends-rises true l 256 (st .waiting) (m .«wait_len») (m .«wait_at») 0 (m .next) ∙ s .waits,
-      ) (le-leb (countSum (st .counts) (m .«held_len») (m .«held_at»)) (m .«wait_len») (omega (arith, sum-total (st .counts) (m .«held_len») (m .«held_at»))))
+      ) (split (ltb 0 t) (λ b. rw b) (λ b. rw b))
 
 -- white space up to the next token that is none
 module _ (l : List ℕ) where

@@ -11,9 +11,9 @@ use borrow.Author.Tests.{eqb-true, ltb-true}
 use Rattle.emitted.proofs.Steps.{Real}
 use Rattle.laws.proofs.Cases.{both-inv, never, split, split-eq, within-inv}
 use Rattle.laws.specs.Bools.{both, within}
-use Rattle.listed.specs.Checked.{good, wholeBy}
 use Rattle.looks.proofs.Numbers.{count-bound, count-whole}
 use Rattle.looks.specs.Numbered.{kindAt, tokenCount}
+use Rattle.looks.specs.Sound.{good, wholeBy}
 use Rattle.rows.specs.Rows.{listCheck, recordCheck, rowsCheck, rowsOf, wordRow}
 
 -- a good first row, and good rows behind it

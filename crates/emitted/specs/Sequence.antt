@@ -6,7 +6,6 @@ use mathlib.Core.Bool.{Bool, true, false}
 use lib.Dec.{eqb}
 use lib.ListN.{length, take}
 use Rattle.laws.specs.Bools.{pick}
-use Rattle.listed.specs.Checked.{listed}
 use Rattle.looks.specs.Buffer.{State}
 use Rattle.looks.specs.Calls.{Turn, advanceBy, arrayBy, bumpBy, bumpIfBy, fillBy, flushBy, gluedBy, isEofBy, nthBy, nthTokenBy}
 use Rattle.looks.specs.Numbered.{isWhite}
@@ -28,22 +27,19 @@ pub data Call : Type 0 where
   advances : ℕ → ℕ → Call
   arrays : ℕ → ℕ → Call
 
--- without the list's test
-abbrev pub testedTurn : List ℕ → Call → State → Turn
-testedTurn l (fills n) st = fillBy l n st
-testedTurn l (nths n) st = nthBy l n st
-testedTurn l (tokens n) st = nthTokenBy l n st
-testedTurn l (glues n) st = gluedBy l n st
-testedTurn l ends st = isEofBy l st
-testedTurn l (flushes room) st = flushBy l room st
-testedTurn l (bumps room) st = bumpBy l room st
-testedTurn l (bumpsIf kind room) st = bumpIfBy l kind room st
-testedTurn l (bumpsWhile kind room) st = bumpWhileBy l kind room st
-testedTurn l (advances n room) st = advanceBy l n room st
-testedTurn l (arrays n room) st = arrayBy l n room st
-
-abbrev pub turnOf : List ℕ → Call → State → Turn
-turnOf l call st = listed l st (testedTurn l call st)
+-- what a call does: with t = 0 as document 01 says; else the list and the state were tested before
+abbrev pub turnOf : ℕ → List ℕ → Call → State → Turn
+turnOf t l (fills n) st = fillBy t l n st
+turnOf t l (nths n) st = nthBy t l n st
+turnOf t l (tokens n) st = nthTokenBy t l n st
+turnOf t l (glues n) st = gluedBy t l n st
+turnOf t l ends st = isEofBy t l st
+turnOf t l (flushes room) st = flushBy t l room st
+turnOf t l (bumps room) st = bumpBy t l room st
+turnOf t l (bumpsIf kind room) st = bumpIfBy t l kind room st
+turnOf t l (bumpsWhile kind room) st = bumpWhileBy t l kind room st
+turnOf t l (advances n room) st = advanceBy t l n room st
+turnOf t l (arrays n room) st = arrayBy t l n room st
 
 -- `array` shows tokens and emits none
 abbrev pub emittedBy : Call → Turn → List ℕ

@@ -1,9 +1,9 @@
-S = {'l': '(@Start .args .list .now)', 'm': '(@Start .args .nums)', 'o': '(@Start .args .out .now)', 'room': '(length $o$)', 'kind': '(@Start .args .kind)',
+S = {'t': '(@Start .args .tested)', 'l': '(@Start .args .list .now)', 'm': '(@Start .args .nums)', 'o': '(@Start .args .out .now)', 'room': '(length $o$)', 'kind': '(@Start .args .kind)',
      'st': '(stateOf $m$ (@Start .args .held .now) (@Start .args .counts .now) (@Start .args .waiting .now))', 'f': '(fill $l$ 0 $st$)',
-     'u': '_ $st$ _ (@fill-refusal .ensures)', 'none': '(refusal-none $l$ 0 $st$ (sym (@fill-refusal .ensures) ∙ @if1 .left))',
-     'b': '(sound-bounded $l$ $st$ ($none$ .0))', 'front': '(@front-of .ensures .0 (@Start .args .waiting .now))',
+     'u': '_ $st$ _ (@fill-refusal .ensures)', 'none': '(refusal-none $t$ $l$ 0 $st$ (sym (@fill-refusal .ensures) ∙ @if1 .left))',
+     'b': '(sound-bounded $t$ $l$ $st$ ($none$ .0))', 'front': '(@front-of .ensures .0 (@Start .args .waiting .now))',
      'filled': '(@gathers-at .ensures ∙ ap (λ (k : ℕ). gathers $l$ k $st$) (@lacks .ensures))',
-     'few': '(white-few $l$ $st$ (sound-sum $l$ $st$ ($none$ .0)) (@front-of-arg2 .given .0) (@front-of-arg4 .given .0))',
+     'few': '(white-few $l$ $st$ (sound-sum $t$ $l$ $st$ ($none$ .0)) (@front-of-arg2 .given .0) (@front-of-arg4 .given .0))',
      'waits': '(arith, $few$, $front$ .0, ap (λ (x : State). x .nums .«wait_len») $filled$)',
      'e': '$l$ _ $f$ $filled$ _ ($front$ .0)'}
 begins = {'front-of-requires': '($b$ .reach, $b$ .wait-few, @front-of-arg2 .given .0, @front-of-arg4 .given .0)',
@@ -41,16 +41,16 @@ fill('emits/flush_at', dict(begins, **{
 fill('emits/wanted', {
     'returns': 'rw (eq-eqb (@Start .args .front .words .kind) (@Start .args .kind) (@if1 .taken))',
     'returns-2': 'rw (ne-eqb (@Start .args .front .words .kind) (@Start .args .kind) (@if1 .left))'})
-I = dict(S, a='(Done (whiteOf $f$ + 1) 1 0 0)', t='(eqb (getD (nthOf $l$ 0 $f$) 0 0) $kind$)',
+I = dict(S, a='(Done (whiteOf $f$ + 1) 1 0 0)', met='(eqb (getD (nthOf $l$ 0 $f$) 0 0) $kind$)',
          count='(@wanted .ensures ∙ ap₂ (λ (k : ℕ) (ws : List ℕ). pick (eqb (getD ws 0 0) $kind$) (k + 1) 0) ($front$ .0) ($front$ .1))')
-turn, long = '(perhaps $l$ $a$ $f$ $t$)', 'perhaps-length $l$ $a$ $f$ $t$, $count$'
+turn, long = '(perhaps $l$ $a$ $f$ $met$)', 'perhaps-length $l$ $a$ $f$ $met$, $count$'
 fill('emits/bump_if_at', dict(begins, **{
     'returns': refused('bumpIfBy', turn),
     'wanted-requires': 'omega (arith, @front-of .ensures .1)',
     'returns-2': short('bumpIfBy', turn, long),
-    'returns-3': finished('bumpIfBy', turn, long, '$filled$', 'refl', 'refl', same='perhaps-none $l$ $a$ $f$ $t$ (sym $count$ ∙ @if3 .taken) ∙ '),
-    'emit-front-requires': '(omega $waits$, omega (arith, perhaps-some $l$ $a$ $f$ $t$ (λ z. @if3 .left ($count$ ∙ z)) .1, $front$ .0, $count$, @if2 .left))',
-    'returns-4': finished('bumpIfBy', turn, long, fronts[0], 'ap (λ (k : ℕ). Done k 1 0 0) ($count$ ∙ sym (s .1))', fronts[1], call='done2', same='s .0 ∙ ', more='let s = perhaps-some $l$ $a$ $f$ $t$ (λ z. @if3 .left ($count$ ∙ z)) in ')}), macros=I)
+    'returns-3': finished('bumpIfBy', turn, long, '$filled$', 'refl', 'refl', same='perhaps-none $l$ $a$ $f$ $met$ (sym $count$ ∙ @if3 .taken) ∙ '),
+    'emit-front-requires': '(omega $waits$, omega (arith, perhaps-some $l$ $a$ $f$ $met$ (λ z. @if3 .left ($count$ ∙ z)) .1, $front$ .0, $count$, @if2 .left))',
+    'returns-4': finished('bumpIfBy', turn, long, fronts[0], 'ap (λ (k : ℕ). Done k 1 0 0) ($count$ ∙ sym (s .1))', fronts[1], call='done2', same='s .0 ∙ ', more='let s = perhaps-some $l$ $a$ $f$ $met$ (λ z. @if3 .left ($count$ ∙ z)) in ')}), macros=I)
 N = dict(S, n='(@Start .args .n)', s='(sym (@sound .ensures) ∙ not-false _ (@if1 .left))')
 fill('emits/advance_refusal', {
     'returns': ('advanceRefusal', 'rw (sym (@sound .ensures) ∙ not-true _ (@if1 .taken))'),
@@ -67,8 +67,8 @@ fill('emits/emit_held', {
     'loop-again': 'advancing-more $w$ _ _ _ (@nth-words .ensures) (@emit-front .ensures .0) (@emit-front .ensures .1)',
     'same-length': '@loop .inv .same',
     'returns': 'advancing-end $a$ $i$ (@loop-test .left)'}, macros=H)
-A = dict(N, u='_ $st$ _ (@advance-refusal .ensures)', none='(advance-none $l$ $n$ $st$ (sym (@advance-refusal .ensures) ∙ @if1 .left))',
-         c='(@Start .args .counts .now)', sum='sum-mono $c$ $n$ ($m$ .«held_len») ($m$ .«held_at») ($none$ .1), sound-sum $l$ $st$ ($none$ .0), $b$, @counts-sum .ensures')
+A = dict(N, u='_ $st$ _ (@advance-refusal .ensures)', none='(advance-none $t$ $l$ $n$ $st$ (sym (@advance-refusal .ensures) ∙ @if1 .left))',
+         c='(@Start .args .counts .now)', sum='sum-mono $c$ $n$ ($m$ .«held_len») ($m$ .«held_at») ($none$ .1), sound-sum $t$ $l$ $st$ ($none$ .0), $b$, @counts-sum .ensures')
 turn, long = '(advanceTurn $l$ $n$ $st$)', 'advance-length $l$ $n$ $st$ ($none$ .1), @counts-sum .ensures'
 fill('emits/advance_at', {
     'returns': refused('advanceBy', turn),
@@ -90,7 +90,7 @@ fill('emits/put_array', {
     'loop-again': 'filing-more $p$ (@loop .out) (@loop .i) (@loop .inv) (@loop-test .taken) _ _ (@nth-words .ensures) (@put-words .ensures)',
     'same-length': '@loop .inv .same',
     'returns': 'filing-end $p$ (@loop .out) (@loop .i) (@loop .inv) (@loop-test .left)'}, macros=P)
-R = dict(N, u='_ $st$ _ (@array-refusal .ensures)', none='(array-none $l$ $n$ $st$ (sym (@array-refusal .ensures) ∙ @if1 .left))', f='(gathers $l$ ($n$ - $m$ .«held_len») $st$)')
+R = dict(N, u='_ $st$ _ (@array-refusal .ensures)', none='(array-none $t$ $l$ $n$ $st$ (sym (@array-refusal .ensures) ∙ @if1 .left))', f='(gathers $l$ ($n$ - $m$ .«held_len») $st$)')
 turn, long = '(arrayTurn $l$ $n$ $f$)', 'array-length $l$ $n$ 0 ($f$ .nums) ($f$ .held)'
 fill('emits/array_at', {
     'returns': refused('arrayBy', turn),

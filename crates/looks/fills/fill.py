@@ -22,9 +22,10 @@ fill('fill/fits_for', {
     'Inv-loop': 'Filling list left n × (fitsFor list left n ≡ fitsFor list left₀ n₀)', 'μ-loop': 'left',
     'loop-holds': '(filling-first $l$ _ _ ($p$ .0) ($p$ .1) ($p$ .2) ($p$ .3), refl)',
     'gather-to-requires': '(rw (@next-dark .ensures) (filling-to $f$ .0), @loop .inv .0 .roomy)',
-    'returns': 'sym (fits-full $l$ $left$ (@loop-test .taken) $n$ (rw ($g$) at (@if1 .taken))) ∙ @loop .inv .1',
-    'loop-again': 'rw ($g$) (filling-more $f$ (@loop-test .taken), sym (fits-more $l$ $left$ (@loop-test .taken) $n$ (rw ($g$) at (@if1 .left))) ∙ @loop .inv .1)',
-    'returns-2': 'sym (fits-end $l$ $left$ $n$ (@loop-test .left)) ∙ @loop .inv .1'}, macros=F)
+    'returns': 'sym (fits-dropped $l$ (@Start .args .times) (@Start .args .nums) (@if1 .taken) ($p$ .3))',
+    'returns-2': 'sym (fits-full $l$ $left$ (@loop-test .taken) $n$ (rw ($g$) at (@if2 .taken))) ∙ @loop .inv .1',
+    'loop-again': 'rw ($g$) (filling-more $f$ (@loop-test .taken), sym (fits-more $l$ $left$ (@loop-test .taken) $n$ (rw ($g$) at (@if2 .left))) ∙ @loop .inv .1)',
+    'returns-3': 'sym (fits-end $l$ $left$ $n$ (@loop-test .left)) ∙ @loop .inv .1'}, macros=F)
 fill('fill/gathers_at', {
     'Inv-loop': 'Filling list left n × (gathers list left (stateOf n held counts waiting) ≡ gathers list left₀ (stateOf n₀ held₀ counts₀ waiting₀))', 'μ-loop': 'left',
     'loop-holds': '(filling-first $l$ _ _ ($p$ .0) ($p$ .1) ($p$ .2) ($p$ .3), refl)',

@@ -1,17 +1,18 @@
 S = {'l': '(@Start .args .list .now)', 'm': '(@Start .args .nums)', 'n': '(@Start .args .n)', 'st': '(stateOf $m$ (@Start .args .held .now) (@Start .args .counts .now) (@Start .args .waiting .now))',
-     'a': '$l$ $n$ $st$'}
+     't': '(@Start .args .tested)', 'a': '$t$ $l$ $n$ $st$'}
 R = dict(S, s='(sym (@sound .ensures) ∙ not-false _ (@if1 .left))', f='(sym (@fits-for .ensures ∙ ap (λ (k : ℕ). fitsFor $l$ k $m$) (@lacks .ensures)) ∙ ')
 fill('ready/fill_refusal', {
     'returns': 'refusal-34 $a$ (sym (@sound .ensures) ∙ not-true _ (@if1 .taken))',
-    'returns-2': 'refusal-30 $a$ $s$ (@if2 .taken)',
-    'fits-for-requires': 'ready-for $l$ $m$ ($n$ + 1) _ (sound-bounded $l$ $st$ $s$) (omega (arith, @if2 .left)) (@lacks .ensures)',
-    'returns-3': 'refusal-31 $a$ $s$ (@if2 .left) $f$ not-true _ (@if3 .taken))',
-    'returns-4': 'refusal-0 $a$ $s$ (@if2 .left) $f$ not-false _ (@if3 .left))'}, macros=R)
+    'returns-2': 'refusal-held $a$ $s$ (@if2 .taken)',
+    'returns-3': 'refusal-30 $a$ $s$ (@if3 .taken)',
+    'fits-for-requires': 'ready-for $l$ $m$ ($n$ + 1) _ (sound-bounded $t$ $l$ $st$ $s$) (omega (arith, @if3 .left)) (@lacks .ensures)',
+    'returns-4': 'refusal-31 $a$ $s$ (@if3 .left) $f$ not-true _ (@if4 .taken))',
+    'returns-5': 'refusal-0 $a$ $s$ (@if3 .left) $f$ not-false _ (@if4 .left))'}, macros=R)
 F = dict(S, none='(refusal-none $a$ (sym (@fill-refusal .ensures) ∙ @if1 .left))')
 fill('ready/filled_at', {
     'returns': '(@fill-refusal .ensures, filled-no $a$ _ (@fill-refusal .ensures) (@if1 .taken))',
     'add-lacks': 'omega (arith, $none$ .1)',
-    'gathers-at-requires': 'ready-for $l$ $m$ ($n$ + 1) _ (sound-bounded $l$ $st$ ($none$ .0)) (omega (arith, $none$ .1)) (@lacks .ensures)',
+    'gathers-at-requires': 'ready-for $l$ $m$ ($n$ + 1) _ (sound-bounded $t$ $l$ $st$ ($none$ .0)) (omega (arith, $none$ .1)) (@lacks .ensures)',
     'returns-2': '(@fill-refusal .ensures, @gathers-at .ensures ∙ ap (λ (k : ℕ). gathers $l$ k $st$) (@lacks .ensures) ∙ filled-yes $a$ _ (@fill-refusal .ensures) (@if1 .left))'}, macros=F)
 
 

@@ -28,13 +28,19 @@ fill('sound/counts_sum', {
     'loop-holds': '(omega arith, sum-first $n$ $r$)',
     'loop-again': '(omega (arith, @wide .ensures), let e = @loop .inv .1 in let m = sum-more $n$ (@loop .i) (@loop-test .taken) $r$ in omega (arith, @wide .ensures))',
     'returns': 'let e = @loop .inv .1 in let m = sum-end $n$ (@loop .i) (@loop-test .left) $r$ in omega arith'}, macros=C)
-S = {'l': '(@Start .args .list .now)', 'm': '(@Start .args .nums)', 'in': '(sym (@bounded .ensures) ∙ not-false _ (@if1 .left))', 'b': '(bounded-inv $l$ $m$ $in$)',
-     'h': 'rw (@ascends-arg .given .0) at (sym (@ascends .ensures) ∙ ', 'w': 'rw (@ascends-arg2 .given .0) at (sym (@ascends2 .ensures) ∙ '}
+fill('sound/whole', {
+    'returns': ('wholeBy', 'sym (ap good (sym (@check-list .ensures) ∙ @enum-told .given .1))'),
+    'returns-2': ('wholeBy', 'sym (ap good (sym (@check-list .ensures) ∙ @enum-told2 .given .1))')})
+S = {'l': '(@Start .args .list .now)', 'm': '(@Start .args .nums)', 't': '(@Start .args .tested)', 'in': '(sym (@bounded .ensures) ∙ not-false _ (@if1 .left))', 'b': '(bounded-inv $l$ $m$ $in$)',
+     'sum': '$in$, ← @counts-sum .ensures, le-leb _ ($m$ .«wait_len») (@if2 .left)', 'new': '$sum$, le-ltb 0 $t$ (@if3 .left)', 'all': '$new$, sym (@whole .ensures) ∙ not-false _ (@if4 .left)',
+     'h': 'rw (@ascends-arg .given .0) at (sym (@ascends .ensures) ∙ ', 'few': '(omega (arith, $b$), omega (arith, $b$))'}
 fill('sound/sound', {
     'returns': ('soundBy', 'rw (sym (@bounded .ensures) ∙ not-true _ (@if1 .taken))'),
+    'counts-sum-requires': '$few$',
+    'returns-2': ('soundBy', 'rw ($in$, ← @counts-sum .ensures, lt-leb _ ($m$ .«wait_len») (@if2 .taken))'),
+    'returns-3': ('soundBy', 'rw ($sum$, lt-ltb 0 $t$ (@if3 .taken))'),
+    'returns-4': ('soundBy', 'rw ($new$, sym (@whole .ensures) ∙ not-true _ (@if4 .taken))'),
     'ascends-requires': '(omega (arith, @ascends-arg .given), omega (arith, $b$), omega (arith, $b$))',
-    'returns-2': ('soundBy', 'rw ($in$, $h$ not-true _ (@if2 .taken)))'),
+    'returns-5': ('soundBy orderedBy', 'rw ($all$, $h$ not-true _ (@if5 .taken)))'),
     'ascends-requires-2': '(omega (arith, @ascends-arg2 .given), omega (arith, $b$), omega (arith, $b$))',
-    'returns-3': ('soundBy', 'rw ($in$, $h$ not-false _ (@if2 .left)), $w$ not-true _ (@if3 .taken)))'),
-    'counts-sum-requires': '(omega (arith, $b$), omega (arith, $b$))',
-    'returns-4': ('soundBy', 'rw ($in$, $h$ not-false _ (@if2 .left)), $w$ not-false _ (@if3 .left)), ← @counts-sum .ensures)')}, macros=S)
+    'returns-6': ('soundBy orderedBy', 'rw ($all$, $h$ not-false _ (@if5 .left))) (rw (@ascends-arg2 .given .0) at (@ascends2 .ensures))')}, macros=S)

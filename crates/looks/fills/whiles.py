@@ -51,14 +51,14 @@ fill('whiles/is_some', {
     'returns': 'rw (lt-ltb 0 (@Start .args .count) (@if1 .taken))',
     'returns-2': 'rw (le-ltb 0 (@Start .args .count) (@if1 .left))'})
 B = {'l': '(@Start .args .list .now)', 'k': '(@Start .args .kind)', 'o': '(@Start .args .out .now)', 'room': '(length $o$)', 'st': st, 'm': '(@Start .args .nums)',
-     't': '(whileTurn (whileRun $l$ $k$ $st$))', 's': '(sym (@sound .ensures) ∙ not-false _ (@if1 .left))',
-     'p': '(@plan-while .ensures (@Start .args .waiting .now))', 'is': '(while-planned $l$ $k$ $st$ $s$ _ $p$)',
+     'q': '(@Start .args .tested)', 't': '(whileTurn (whileRun $l$ $k$ $st$))', 's': '(sym (@sound .ensures) ∙ not-false _ (@if1 .left))',
+     'p': '(@plan-while .ensures (@Start .args .waiting .now))', 'is': '(while-planned $q$ $l$ $k$ $st$ $s$ _ $p$)',
      'none': '(sym (ap (λ (q : Plan). q .refusal) $p$) ∙ @if2 .left)',
-     'count': '(ap (λ (q : Plan). q .count) $p$ ∙ plan-counts $l$ $k$ $st$ $none$)', 'long': 'run-length $l$ $k$ (tokensLeft $l$ $m$) (fill $l$ 0 $st$), $count$'}
+     'count': '(ap (λ (q : Plan). q .count) $p$ ∙ plan-counts $q$ $l$ $k$ $st$ $none$)', 'long': 'run-length $l$ $k$ (tokensLeft $l$ $m$) (fill $l$ 0 $st$), $count$'}
 fill('whiles/bump_while_at', {
-    'returns': ('bumpWhileBy', 'rw (@refuse .ensures) (parts $o$ _ _ (unless-no _ $st$ 34 (while-unsound $l$ $k$ $st$ (sym (@sound .ensures) ∙ not-true _ (@if1 .taken))) (storedBy $room$ $st$ $t$) (λ z. let w : _≡_ {A = ℕ} 34 0 = z in omega arith)))'),
-    'plan-while-requires': 'good-sound $l$ $st$ $s$ (@plan-while-arg2 .given .0) (@plan-while-arg4 .given .0)',
+    'returns': ('bumpWhileBy', 'rw (@refuse .ensures) (parts $o$ _ _ (unless-no _ $st$ 34 (while-unsound $q$ $l$ $k$ $st$ (sym (@sound .ensures) ∙ not-true _ (@if1 .taken))) (storedBy $room$ $st$ $t$) (λ z. let w : _≡_ {A = ℕ} 34 0 = z in omega arith)))'),
+    'plan-while-requires': 'good-sound $q$ $l$ $st$ $s$ (@plan-while-arg2 .given .0) (@plan-while-arg4 .given .0)',
     'returns-2': ('bumpWhileBy', 'rw (@refuse2 .ensures) (parts $o$ _ _ (unless-no _ $st$ _ $is$ (storedBy $room$ $st$ $t$) (@if2 .taken)))'),
     'returns-3': ('bumpWhileBy', 'rw (@refuse3 .ensures) (parts $o$ _ _ (stored-short $room$ $st$ $t$ (omega (arith, $long$, @if3 .taken)) ∙ unless-yes _ $st$ _ $is$ (storedBy $room$ $st$ $t$) (@if2 .left)))'),
-    'run-while-requires': '(good-sound $l$ $st$ $s$ (@plan-while-arg2 .given .0) (@plan-while-arg4 .given .0), $none$, omega (arith, ap (λ (q : Plan). q .count) $p$, @if3 .left))',
+    'run-while-requires': '(good-sound $q$ $l$ $st$ $s$ (@plan-while-arg2 .given .0) (@plan-while-arg4 .given .0), $none$, omega (arith, ap (λ (q : Plan). q .count) $p$, @if3 .left))',
     'returns-4': ('bumpWhileBy', 'rw (@done .ensures) (parts-of $o$ _ _ (stored-done $room$ $st$ $t$ (omega (arith, $long$, @if3 .left)) ∙ unless-yes _ $st$ _ $is$ (storedBy $room$ $st$ $t$) (@if2 .left)) _ _ _ (@run-while .ensures .0, ap (λ (k : ℕ). Done (@plan-while .result .count) k 0 0) (@is-some .ensures) ∙ ap (λ (k : ℕ). Done k (yes (ltb 0 k)) 0 0) $count$, @run-while .ensures .1))')}, macros=B)

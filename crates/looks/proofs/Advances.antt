@@ -7,16 +7,16 @@ use native.Mathlib.Omega.{arith}
 use lib.Seq.{length-sets, sets}
 use lib.ListN.{getD, length, length-append}
 use borrow.Author.Tests.{eq-eqb, lt-leb, ne-eqb}
-use Rattle.looks.specs.Buffer.{State, ringAt}
-use Rattle.looks.specs.Front.{frontWhite, frontWords, lessHeld, lessWaiting, nthOf, nthWords, waitWords, whiteOf}
-use Rattle.looks.specs.Sound.{countSum, soundBy}
-use Rattle.looks.specs.declared.state.Nums.{Nums}
 use Rattle.laws.proofs.Cases.{never, split, split-eq, split-le}
+use Rattle.laws.proofs.Sets.{sets-append}
 use Rattle.laws.specs.Bools.{same}
 use Rattle.looks.proofs.Answers.{refusal-none}
 use Rattle.looks.proofs.Turns.{front-length, front-state, front-words, nth-length}
+use Rattle.looks.specs.Buffer.{State, ringAt}
 use Rattle.looks.specs.Calls.{advanceRefusal, advanceWords, advanced, arrayRefusal, arrayWords, bumped, withNums}
-use Rattle.laws.proofs.Sets.{sets-append}
+use Rattle.looks.specs.Front.{frontWhite, frontWords, lessHeld, lessWaiting, nthOf, nthWords, waitWords, whiteOf}
+use Rattle.looks.specs.Sound.{countSum, soundBy}
+use Rattle.looks.specs.declared.state.Nums.{Nums}
 
 pub sum-mod : (ring : List ℕ) (n at : ℕ) → countSum ring n (at % 8) ≡ countSum ring n at
 unfolding countSum
@@ -32,24 +32,24 @@ sum-mono ring zero k at h = omega arith
 sum-mono ring (suc n) zero at h = absurd (omega arith)
 sum-mono ring (suc n) (suc k) at h = let e = sum-mono ring n k (at + 1) (omega arith) in omega arith
 
-module _ (l : List ℕ) (n : ℕ) (st : State) where
-  pub advance-none : advanceRefusal l n st ≡ 0 → (soundBy l st ≡ true) × (n ≤ st .nums .«held_len»)
+module _ (t : ℕ) (l : List ℕ) (n : ℕ) (st : State) where
+  pub advance-none : advanceRefusal t l n st ≡ 0 → (soundBy t l st ≡ true) × (n ≤ st .nums .«held_len»)
   unfolding advanceRefusal
   advance-none e =
-      split (soundBy l st)
+      split (soundBy t l st)
       (λ s. split-le n (st .nums .«held_len»)
       (λ h. (s, h))
       (λ h. never (let w : _≡_ {A = ℕ} 32 0 = rw (s, lt-leb n (st .nums .«held_len») h) at e in omega arith)))
       (λ s. never (let w : _≡_ {A = ℕ} 34 0 = rw s at e in omega arith))
 
-  pub array-none : arrayRefusal l n st ≡ 0 → (soundBy l st ≡ true) × (n ≤ 8)
+  pub array-none : arrayRefusal t l n st ≡ 0 → (soundBy t l st ≡ true) × (n ≤ 8)
   unfolding arrayRefusal
   array-none e =
       split-eq n 0
-      (λ z. split (soundBy l st)
+      (λ z. split (soundBy t l st)
       (λ s. (s, omega arith))
       (λ s. never (let w : _≡_ {A = ℕ} 34 0 = rw (eq-eqb n 0 z, s) at e in omega arith)))
-      (λ z. let r = refusal-none l (n - 1) st (rw (ne-eqb n 0 z) at e) in (r .0, omega (arith, r .1)))
+      (λ z. let r = refusal-none t l (n - 1) st (rw (ne-eqb n 0 z) at e) in (r .0, omega (arith, r .1)))
 
 -- the numbers after a held token was emitted
 module _ (w : ℕ) (m : Nums) (h : m .«held_len» ≡ 0 → ⊥) where

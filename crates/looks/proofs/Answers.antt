@@ -5,18 +5,19 @@ use mathlib.Core.List.{List}
 use mathlib.Core.Bool.{true, false}
 use native.Mathlib.Omega.{arith}
 use borrow.Author.Tests.{eq-eqb, le-leb, lt-leb, ne-eqb}
+use Rattle.laws.proofs.Cases.{both-inv, never, split, split-le}
+use Rattle.laws.specs.Bools.{both}
 use Rattle.looks.proofs.Sounds.{Bounded, bounded-inv}
-use Rattle.looks.specs.Buffer.{Roomy, State, fill, fits}
+use Rattle.looks.specs.Buffer.{Roomy, State, fill, fits, fitsFor}
+use Rattle.looks.specs.Calls.{Turn, fillRefusal, filledBy, filledTo}
 use Rattle.looks.specs.Numbered.{tokenCount}
 use Rattle.looks.specs.Sound.{boundedBy, soundBy}
 use Rattle.looks.specs.declared.look.Looked.the-variants.{Refused}
 use Rattle.looks.specs.declared.state.Nums.{Nums}
-use Rattle.laws.proofs.Cases.{both-inv, never, split, split-le}
-use Rattle.looks.specs.Calls.{Turn, fillRefusal, filledBy, filledTo}
 
-pub sound-bounded : (l : List ℕ) (st : State) → soundBy l st ≡ true → Bounded l (st .nums)
+pub sound-bounded : (t : ℕ) (l : List ℕ) (st : State) → soundBy t l st ≡ true → Bounded l (st .nums)
 unfolding soundBy
-sound-bounded l st h = bounded-inv l (st .nums) (both-inv (boundedBy l (st .nums)) _ h .0)
+sound-bounded t l st h = bounded-inv l (st .nums) (both-inv (boundedBy l (st .nums)) _ (both-inv (both (boundedBy l (st .nums)) _) _ h .0) .0)
 
 -- what filling asks of the numbers
 abbrev Ready : List ℕ → ℕ → Nums → Type 0
@@ -25,29 +26,37 @@ Ready l times m = (m .next ≤ tokenCount l) × Roomy m × (m .«held_len» + ti
 pub ready-for : (l : List ℕ) (m : Nums) (most times : ℕ) → Bounded l m → most ≤ 8 → times ≡ most - m .«held_len» → Ready l times m
 ready-for l m most times b h e = (b .reach, record { held-in = b .held-in; wait-in = b .wait-in; held-few = b .held-few; wait-few = omega arith }, omega arith, b .wait-few)
 
-module _ (l : List ℕ) (n : ℕ) (st : State) where
-  pub refusal-34 : soundBy l st ≡ false → 34 ≡ fillRefusal l n st
+module _ (t : ℕ) (l : List ℕ) (n : ℕ) (st : State) where
+  pub refusal-34 : soundBy t l st ≡ false → 34 ≡ fillRefusal t l n st
   unfolding fillRefusal
   refusal-34 s = rw s
 
-  module _ (s : soundBy l st ≡ true) where
-    pub refusal-30 : 7 < n → 30 ≡ fillRefusal l n st
+  module _ (s : soundBy t l st ≡ true) where
+    -- so many are held already
+    pub refusal-held : n < st .nums .«held_len» → 0 ≡ fillRefusal t l n st
+    unfolding fillRefusal fitsFor
+    refusal-held h =
+        let few = sound-bounded t l st s .held-few in
+        let e : n + 1 - st .nums .«held_len» ≡ 0 = omega arith in
+        rw (s, le-leb n 7 (omega arith), e)
+
+    pub refusal-30 : 7 < n → 30 ≡ fillRefusal t l n st
     unfolding fillRefusal
     refusal-30 h = rw (s, lt-leb n 7 h)
 
-    pub refusal-31 : n ≤ 7 → fits l n (st .nums) ≡ false → 31 ≡ fillRefusal l n st
+    pub refusal-31 : n ≤ 7 → fits l n (st .nums) ≡ false → 31 ≡ fillRefusal t l n st
     unfolding fillRefusal
     refusal-31 h f = rw (s, le-leb n 7 h, f)
 
-    pub refusal-0 : n ≤ 7 → fits l n (st .nums) ≡ true → 0 ≡ fillRefusal l n st
+    pub refusal-0 : n ≤ 7 → fits l n (st .nums) ≡ true → 0 ≡ fillRefusal t l n st
     unfolding fillRefusal
     refusal-0 h f = rw (s, le-leb n 7 h, f)
 
   -- where nothing is refused the state is sound, n is small and 256 suffice
-  pub refusal-none : fillRefusal l n st ≡ 0 → (soundBy l st ≡ true) × (n ≤ 7) × (fits l n (st .nums) ≡ true)
+  pub refusal-none : fillRefusal t l n st ≡ 0 → (soundBy t l st ≡ true) × (n ≤ 7) × (fits l n (st .nums) ≡ true)
   unfolding fillRefusal
   refusal-none e =
-      split (soundBy l st)
+      split (soundBy t l st)
       (λ s. split-le n 7
       (λ h. split (fits l n (st .nums))
       (λ f. (s, h, f))
@@ -55,18 +64,18 @@ module _ (l : List ℕ) (n : ℕ) (st : State) where
       (λ h. never (let w : _≡_ {A = ℕ} 30 0 = rw (s, lt-leb n 7 h) at e in omega arith)))
       (λ s. never (let w : _≡_ {A = ℕ} 34 0 = rw s at e in omega arith))
 
-  module _ (number : ℕ) (is : number ≡ fillRefusal l n st) where
-    pub filled-no : (number ≡ 0 → ⊥) → st ≡ filledTo l n st
-    filled-no h = rw (ne-eqb (fillRefusal l n st) 0 (λ e. h (is ∙ e)))
+  module _ (number : ℕ) (is : number ≡ fillRefusal t l n st) where
+    pub filled-no : (number ≡ 0 → ⊥) → st ≡ filledTo t l n st
+    filled-no h = rw (ne-eqb (fillRefusal t l n st) 0 (λ e. h (is ∙ e)))
 
-    pub filled-yes : number ≡ 0 → fill l n st ≡ filledTo l n st
-    filled-yes h = rw (eq-eqb (fillRefusal l n st) 0 (sym is ∙ h))
+    pub filled-yes : number ≡ 0 → fill l n st ≡ filledTo t l n st
+    filled-yes h = rw (eq-eqb (fillRefusal t l n st) 0 (sym is ∙ h))
 
-    module _ (asked : State → Turn) (f : State) (e : f ≡ filledTo l n st) where
-      pub asked-no : (number ≡ 0 → ⊥) → (f ≡ filledBy l n st asked .state) × (Refused number ≡ filledBy l n st asked .answer)
+    module _ (asked : State → Turn) (f : State) (e : f ≡ filledTo t l n st) where
+      pub asked-no : (number ≡ 0 → ⊥) → (f ≡ filledBy t l n st asked .state) × (Refused number ≡ filledBy t l n st asked .answer)
       asked-no h =
-          let t = ne-eqb (fillRefusal l n st) 0 (λ z. h (is ∙ z)) in
-          (rw t (e ∙ sym (filled-no h)), rw t (ap Refused is))
+          let b = ne-eqb (fillRefusal t l n st) 0 (λ z. h (is ∙ z)) in
+          (rw b (e ∙ sym (filled-no h)), rw b (ap Refused is))
 
-      pub asked-yes : number ≡ 0 → asked f ≡ filledBy l n st asked
-      asked-yes h = rw (eq-eqb (fillRefusal l n st) 0 (sym is ∙ h)) (ap asked (e ∙ sym (filled-yes h)))
+      pub asked-yes : number ≡ 0 → asked f ≡ filledBy t l n st asked
+      asked-yes h = rw (eq-eqb (fillRefusal t l n st) 0 (sym is ∙ h)) (ap asked (e ∙ sym (filled-yes h)))

@@ -1,16 +1,18 @@
 -- Steps of filling: the numbers after one more token, the queue, and what stays small. Assumes nothing.
-use Prim.Native.Nat.{ℕ, suc, _+_, _-_, _*_, _%_, _≤_, _<_}
+use Prim.Native.Nat.{ℕ, zero, suc, _+_, _-_, _*_, _%_, _≤_, _<_}
 use mathlib.Core.Path.{_≡_, refl, ap, ap₂, _∙_}
 use mathlib.Core.List.{List}
 use mathlib.Core.Bool.{true, false}
 use native.Mathlib.Omega.{arith}
+use lib.Dec.{ltb}
 use lib.ListN.{set}
 use borrow.Author.Tests.{le-leb, le-ltb, lt-leb, lt-ltb}
+use Rattle.laws.proofs.Cases.{split, split-le}
+use Rattle.laws.specs.Bools.{same}
 use Rattle.looks.proofs.Numbers.{count-bound, dark-bound}
 use Rattle.looks.specs.Buffer.{Roomy, State, fitsFor, gather, gatherAt, gatherNums, gatherTo, gathers, keeps, queued, stateOf, whiteTo}
 use Rattle.looks.specs.Numbered.{dark, tokenCount}
 use Rattle.looks.specs.declared.state.Nums.{Nums}
-use Rattle.laws.proofs.Cases.{split, split-le}
 
 module _ (p count : ℕ) (m : Nums) where
   pub gather-more : p < count → (w : ℕ) → w ≡ whiteTo p m → record { next = p + 1; «held_at» = m .«held_at»; «held_len» = m .«held_len» + 1; «wait_at» = m .«wait_at»; «wait_len» = m .«wait_len» + w; keep = m .keep } ≡ gatherTo p count m
@@ -88,6 +90,15 @@ module _ (l : List ℕ) (left : ℕ) (m : Nums) (f : Filling l left m) where
         held = omega (arith, g .0);
         wait = omega arith;
       }
+
+-- where white space is dropped none comes to wait
+pub fits-dropped : (l : List ℕ) (n : ℕ) (m : Nums) → m .keep ≡ 0 → m .«wait_len» ≤ 256 → fitsFor l n m ≡ true
+unfolding fitsFor gatherTo
+fits-dropped l zero m e w = refl
+fits-dropped l (suc n) m e w =
+    let k : ltb 0 (m .keep) ≡ false = le-ltb 0 (m .keep) (omega arith) in
+    let same : gatherNums l m .«wait_len» ≡ m .«wait_len» = rw k (omega arith) in
+    rw (le-leb (gatherNums l m .«wait_len») 256 (omega arith)) (fits-dropped l n (gatherNums l m) e (omega arith))
 
 module _ (l : List ℕ) (left : ℕ) (h : 0 < left) where
   left-more : left ≡ suc (left - 1)

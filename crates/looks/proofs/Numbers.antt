@@ -6,8 +6,8 @@ use mathlib.Core.Bool.{true, false}
 use native.Mathlib.Omega.{arith}
 use lib.ListN.{length}
 use borrow.Author.Tests.{eq-eqb, le-leb, lt-leb, ne-eqb}
-use Rattle.looks.specs.Numbered.{dark, darkFrom, endAt, isWhite, kindAt, listEnd, tokenCount}
 use Rattle.laws.proofs.Cases.{split, split-le}
+use Rattle.looks.specs.Numbered.{dark, darkFrom, endAt, isWhite, kindAt, listEnd, tokenCount}
 
 module _ (l : List ℕ) where
   pub count-whole : length l / 3 ≤ 4294967295 → length l / 3 ≡ tokenCount l

@@ -8,20 +8,20 @@ use native.Mathlib.Omega.{arith}
 use lib.Dec.{leb, ltb, eqb}
 use lib.ListN.{getD, length}
 use borrow.Author.Tests.{eq-eqb, le-leb, le-ltb, lt-leb, lt-ltb, ne-eqb}
-use Rattle.looks.proofs.Fronts.{fill-held, front-held}
-use Rattle.looks.proofs.Numbers.{count-bound, dark-bound}
-use Rattle.looks.specs.Buffer.{Roomy, State, fill, fits, gatherNums, gatherTo, ringAt, stateOf, whiteTo}
-use Rattle.looks.specs.Front.{Fronted, lessHeld, lessWaiting, nthOf, whiteOf}
-use Rattle.looks.specs.Numbered.{dark, endAt, kindAt, startAt, tokenCount}
-use Rattle.looks.specs.Sound.{countSum}
-use Rattle.looks.specs.declared.state.Nums.{Nums}
 use Rattle.laws.proofs.Cases.{both-false, both-true, split-eq, split-le}
 use Rattle.laws.specs.Bools.{both, pick, same}
 use Rattle.looks.proofs.Advances.{less-facts, sum-mod}
+use Rattle.looks.proofs.Fronts.{fill-held, front-held}
+use Rattle.looks.proofs.Numbers.{count-bound, dark-bound}
 use Rattle.looks.proofs.Plans.{fill-nums, fill-sizes, fits-front, front-same, plan-full, plan-go, plan-stop}
 use Rattle.looks.proofs.Turns.{white-few}
+use Rattle.looks.specs.Buffer.{Roomy, State, fill, fits, gatherNums, gatherTo, ringAt, stateOf, whiteTo}
 use Rattle.looks.specs.Calls.{bumped}
+use Rattle.looks.specs.Front.{Fronted, lessHeld, lessWaiting, nthOf, whiteOf}
+use Rattle.looks.specs.Numbered.{dark, endAt, kindAt, startAt, tokenCount}
+use Rattle.looks.specs.Sound.{countSum}
 use Rattle.looks.specs.While.{Plannable, fillNums, goesOn, planOf, tokensLeft, whilePlan}
+use Rattle.looks.specs.declared.state.Nums.{Nums}
 
 -- the state that a turn stands for: while some are held its arrays are the ones lent, and from then on they do not matter
 pub record Turning (l : List ℕ) (kind : ℕ) (held counts : List ℕ) (st₀ : State) (m : Nums) (count : ℕ) : Type 0 where

@@ -7,16 +7,16 @@ use native.Mathlib.Omega.{arith}
 use lib.Dec.{leb, ltb, eqb}
 use lib.ListN.{length, length-set}
 use borrow.Author.Tests.{eq-eqb, le-leb, ne-eqb}
-use Rattle.looks.proofs.Fronts.{fill-held, fill-none, front-last, front-more}
-use Rattle.looks.specs.Buffer.{State, fill, fits, fitsFor, gatherAt, gatherNums, whiteTo}
-use Rattle.looks.specs.Front.{nthOf, whiteOf}
-use Rattle.looks.specs.Numbered.{dark, endAt, kindAt, listEnd, startAt, tokenCount}
-use Rattle.looks.specs.declared.emit.Words.{Words}
-use Rattle.looks.specs.declared.state.Nums.{Nums}
 use Rattle.laws.proofs.Cases.{both-true, split, split-eq, split-le}
 use Rattle.laws.specs.Bools.{both, pick}
+use Rattle.looks.proofs.Fronts.{fill-held, fill-none, front-last, front-more}
+use Rattle.looks.specs.Buffer.{State, fill, fits, fitsFor, gatherAt, gatherNums, whiteTo}
 use Rattle.looks.specs.Calls.{bumped}
+use Rattle.looks.specs.Front.{nthOf, whiteOf}
+use Rattle.looks.specs.Numbered.{dark, endAt, kindAt, listEnd, startAt, tokenCount}
 use Rattle.looks.specs.While.{fillNums, goesOn, planOf, runOf, stops}
+use Rattle.looks.specs.declared.emit.Words.{Words}
+use Rattle.looks.specs.declared.state.Nums.{Nums}
 
 -- two states with the same numbers and none held have the same front once filled
 pub front-same : (l : List ℕ) (st st′ : State) → st .nums ≡ st′ .nums → st .nums .«held_len» ≡ 0

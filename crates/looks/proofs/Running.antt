@@ -8,32 +8,32 @@ use lib.Dec.{ltb}
 use lib.Seq.{getD-set-same, length-sets, sets}
 use lib.ListN.{getD, length, length-append}
 use borrow.Author.Tests.{eq-eqb, le-ltb, leb-true, lt-ltb, ltb-true, ne-eqb}
+use Rattle.laws.proofs.Cases.{both-inv, never, split, split-eq, split-le}
+use Rattle.laws.proofs.Sets.{sets-append}
+use Rattle.laws.specs.Bools.{both, same}
+use Rattle.looks.proofs.Answers.{sound-bounded}
 use Rattle.looks.proofs.Fronts.{fill-held, fill-none}
 use Rattle.looks.proofs.Gathers.{gather-held}
 use Rattle.looks.proofs.Numbers.{dark-bound}
-use Rattle.looks.proofs.Sounds.{Bounded}
-use Rattle.looks.specs.Buffer.{State, fill, fits, gatherAt, gatherNums, gatherTo, ringAt, stateOf, whiteTo}
-use Rattle.looks.specs.Front.{Fronted, frontWhite, frontWords, nthOf, waitWords, whiteOf}
-use Rattle.looks.specs.Numbered.{dark, tokenCount}
-use Rattle.looks.specs.Sound.{countSum, soundBy}
-use Rattle.looks.specs.declared.state.Nums.{Nums}
-use Rattle.laws.proofs.Cases.{both-inv, never, split, split-eq, split-le}
-use Rattle.laws.specs.Bools.{both, same}
-use Rattle.looks.proofs.Answers.{sound-bounded}
 use Rattle.looks.proofs.Planning.{fewer, plannable-after, turn-few}
 use Rattle.looks.proofs.Plans.{fill-nums, fill-sizes, fits-front}
+use Rattle.looks.proofs.Sounds.{Bounded}
 use Rattle.looks.proofs.Turns.{front-length, front-words, sound-sum}
+use Rattle.looks.specs.Buffer.{State, fill, fits, gatherAt, gatherNums, gatherTo, ringAt, stateOf, whiteTo}
 use Rattle.looks.specs.Calls.{bumped}
+use Rattle.looks.specs.Front.{Fronted, frontWhite, frontWords, nthOf, waitWords, whiteOf}
+use Rattle.looks.specs.Numbered.{dark, tokenCount}
+use Rattle.looks.specs.Sound.{countSum, good, soundBy}
 use Rattle.looks.specs.While.{Plannable, Run, emitsThen, fillNums, goesOn, planOf, runOf, stops, tokensLeft, whilePlan, whileRefusal, whileRun}
+use Rattle.looks.specs.declared.state.Nums.{Nums}
 use Rattle.looks.specs.declared.whiles.Plan.{Plan}
-use Rattle.laws.proofs.Sets.{sets-append}
 
 abbrev pub Steady : List ℕ → State → Type 0
 Steady l st = Plannable l (st .nums) (st .held) (st .counts)
 
-pub good-sound : (l : List ℕ) (st : State) → soundBy l st ≡ true → length (st .held) ≡ 8 → length (st .counts) ≡ 8 → Steady l st
-good-sound l st s h c =
-    let b = sound-bounded l st s in
+pub good-sound : (t : ℕ) (l : List ℕ) (st : State) → soundBy t l st ≡ true → length (st .held) ≡ 8 → length (st .counts) ≡ 8 → Steady l st
+good-sound t l st s h c =
+    let b = sound-bounded t l st s in
     record {
       reach = b .reach;
       held-few = b .held-few;
@@ -42,7 +42,7 @@ good-sound l st s h c =
       wait-in = b .wait-in;
       held-size = h;
       counts-size = c;
-      sum = sound-sum l st s;
+      sum = sound-sum t l st s;
     }
 
 -- filling keeps a state good, and leaves no more tokens than there were
@@ -269,12 +269,16 @@ pub runs-first : (l : List ℕ) (kind : ℕ) (f : State) (out₀ : List ℕ) →
 runs-first l kind f out₀ n r =
     record { left = n; enough = r .enough; good = r .good; fitting = r .fitting; state = refl; stores = refl; same = refl; room = let h = r .fits-in in omega arith }
 
-module _ (l : List ℕ) (kind : ℕ) (st : State) where
-  pub while-unsound : soundBy l st ≡ false → 34 ≡ whileRefusal l kind st
+module _ (t : ℕ) (l : List ℕ) (kind : ℕ) (st : State) where
+  pub while-unsound : soundBy t l st ≡ false → 34 ≡ whileRefusal t l kind st
   unfolding whileRefusal
   while-unsound s = rw s
 
-  pub while-planned : soundBy l st ≡ true → (p : Plan) → p ≡ whilePlan l kind st → p .refusal ≡ whileRefusal l kind st
+  pub while-sound : whileRefusal t l kind st ≡ 0 → soundBy t l st ≡ true
+  unfolding whileRefusal
+  while-sound e = split (soundBy t l st) (λ s. s) (λ s. never (let w : _≡_ {A = ℕ} 34 0 = rw s at e in omega arith))
+
+  pub while-planned : soundBy t l st ≡ true → (p : Plan) → p ≡ whilePlan l kind st → p .refusal ≡ whileRefusal t l kind st
   unfolding whileRefusal
   while-planned s p e = rw s (ap (λ (q : Plan). q .refusal) e)
 

@@ -7,11 +7,11 @@ use native.Mathlib.Omega.{arith}
 use lib.Dec.{leb, ltb}
 use lib.ListN.{getD}
 use borrow.Author.Tests.{leb-true, ltb-true}
+use Rattle.laws.proofs.Cases.{both-inv}
+use Rattle.laws.specs.Bools.{both}
 use Rattle.looks.specs.Numbered.{tokenCount}
 use Rattle.looks.specs.Sound.{ascendsBy, boundedBy, countSum, followsBy}
 use Rattle.looks.specs.declared.state.Nums.{Nums}
-use Rattle.laws.proofs.Cases.{both-inv}
-use Rattle.laws.specs.Bools.{both}
 
 module _ (count at j : ℕ) (h : j < count) where
   step-left : count - j ≡ suc (count - (j + 1))

@@ -5,10 +5,10 @@ use mathlib.Core.List.{List, [], _∷_, _++_}
 use native.Mathlib.Omega.{arith}
 use lib.Seq.{length-sets, sets}
 use lib.ListN.{getD, length, set}
+use Rattle.laws.proofs.Sets.{sets-append}
+use Rattle.laws.specs.Bools.{same}
 use Rattle.looks.specs.Front.{waitWords}
 use Rattle.looks.specs.Numbered.{tokenAt}
-use Rattle.laws.specs.Bools.{same}
-use Rattle.laws.proofs.Sets.{sets-append}
 
 pub words-store : (out : List ℕ) (p a b c : ℕ) → set (set (set out p a) (p + 1) b) (p + 2) c ≡ sets out p (a ∷ b ∷ c ∷ [])
 words-store out p a b c =

@@ -8,17 +8,17 @@ use lib.Dec.{ltb}
 use lib.Seq.{sets}
 use lib.ListN.{getD, length, length-append, set}
 use borrow.Author.Tests.{eq-eqb, le-leb, leb-true, lt-leb, ne-eqb}
+use Rattle.laws.proofs.Cases.{both-inv, never, split, split-eq, split-le}
+use Rattle.laws.specs.Bools.{both, pick}
 use Rattle.looks.proofs.Fronts.{fill-held, fill-none, front-held, front-last, front-more}
 use Rattle.looks.proofs.Stores.{wait-length}
 use Rattle.looks.specs.Buffer.{State, fill, gatherAt, gatherTo, ringAt, stateOf}
+use Rattle.looks.specs.Calls.{Turn, bumped, flushed, frontTurn, refuses, shows, storedBy, unless, withNums}
 use Rattle.looks.specs.Front.{frontWords, lessHeld, lessWaiting, nthOf, nthWords, waitWords, whiteOf, whiteWords}
 use Rattle.looks.specs.Numbered.{dark, endAt, kindAt, listEnd, startAt, tokenCount}
-use Rattle.looks.specs.Sound.{ascendsBy, boundedBy, countSum, soundBy}
+use Rattle.looks.specs.Sound.{boundedBy, countSum, soundBy}
 use Rattle.looks.specs.declared.look.Looked.{Looked}
 use Rattle.looks.specs.declared.state.Nums.{Nums}
-use Rattle.laws.proofs.Cases.{both-inv, never, split, split-eq, split-le}
-use Rattle.laws.specs.Bools.{pick}
-use Rattle.looks.specs.Calls.{Turn, bumped, flushed, frontTurn, refuses, shows, storedBy, unless, withNums}
 
 -- the state, the answer and the store by a turn
 abbrev Parts : List ℕ → State → Looked → List ℕ → Turn → Type 0
@@ -60,13 +60,9 @@ front-length l f =
     let b = nth-length l 0 (f .nums) (f .held) in
     omega arith
 
-pub sound-sum : (l : List ℕ) (st : State) → soundBy l st ≡ true → countSum (st .counts) (st .nums .«held_len») (st .nums .«held_at») ≤ st .nums .«wait_len»
+pub sound-sum : (t : ℕ) (l : List ℕ) (st : State) → soundBy t l st ≡ true → countSum (st .counts) (st .nums .«held_len») (st .nums .«held_at») ≤ st .nums .«wait_len»
 unfolding soundBy
-sound-sum l st s =
-    let m = st .nums in
-    let a = both-inv (boundedBy l m) _ s .1 in
-    let b = both-inv (ascendsBy false l 8 (st .held) (m .«held_len») (m .«held_at») 0 (m .next)) _ a .1 in
-    leb-true _ _ (both-inv (ascendsBy true l 256 (st .waiting) (m .«wait_len») (m .«wait_at») 0 (m .next)) _ b .1)
+sound-sum t l st s = leb-true _ _ (both-inv (boundedBy l (st .nums)) _ (both-inv (both (boundedBy l (st .nums)) _) _ s .0) .1)
 
 -- no more is emitted than waits
 pub white-few : (l : List ℕ) (st : State) → countSum (st .counts) (st .nums .«held_len») (st .nums .«held_at») ≤ st .nums .«wait_len» → length (st .held) ≡ 8 → length (st .counts) ≡ 8

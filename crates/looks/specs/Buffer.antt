@@ -4,10 +4,10 @@ use mathlib.Core.List.{List, [], _∷_}
 use mathlib.Core.Bool.{Bool, true}
 use lib.Dec.{leb, ltb}
 use lib.ListN.{getD, set}
+use Rattle.laws.specs.Bools.{both, pick}
 use Rattle.looks.specs.Numbered.{dark, tokenCount}
 use Rattle.looks.specs.declared.emit.Words.{Words}
 use Rattle.looks.specs.declared.state.Nums.{Nums}
-use Rattle.laws.specs.Bools.{both, pick}
 
 -- the state: its numbers, the held tokens by number, the count of white space before each, and the waiting white space by number
 pub record State : Type 0 where

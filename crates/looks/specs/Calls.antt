@@ -3,13 +3,13 @@ use Prim.Native.Nat.{ℕ, zero, suc, _+_, _-_, _%_}
 use mathlib.Core.List.{List, [], _++_}
 use lib.Dec.{leb, eqb}
 use lib.ListN.{getD, length, set}
+use Rattle.laws.specs.Bools.{pick}
 use Rattle.looks.specs.Buffer.{State, fill, fits, gathers, ringAt, stateOf}
 use Rattle.looks.specs.Front.{frontWords, lessHeld, lessWaiting, nthOf, nthWords, whiteOf, whiteWords, yes}
 use Rattle.looks.specs.Sound.{countSum, soundBy}
 use Rattle.looks.specs.declared.look.Looked.{Looked}
 use Rattle.looks.specs.declared.look.Looked.the-variants.{Done, Refused}
 use Rattle.looks.specs.declared.state.Nums.{Nums}
-use Rattle.laws.specs.Bools.{pick}
 
 abbrev pub withNums : Nums → State → State
 withNums m f = stateOf m (f .held) (f .counts) (f .waiting)
@@ -37,53 +37,53 @@ abbrev pub shows : ℕ → State → Turn
 shows value f = record { state = f; answer = Done 0 value 0 0; written = [] }
 
 -- the first of 34 for the state, 30 and 31, or 0
-unfoldable pub fillRefusal : List ℕ → ℕ → State → ℕ
-fillRefusal l n st = pick (soundBy l st) (pick (leb n 7) (pick (fits l n (st .nums)) 0 31) 30) 34
+unfoldable pub fillRefusal : ℕ → List ℕ → ℕ → State → ℕ
+fillRefusal t l n st = pick (soundBy t l st) (pick (leb n 7) (pick (fits l n (st .nums)) 0 31) 30) 34
 
-abbrev pub filledTo : List ℕ → ℕ → State → State
-filledTo l n st = pick (eqb (fillRefusal l n st) 0) (fill l n st) st
+abbrev pub filledTo : ℕ → List ℕ → ℕ → State → State
+filledTo t l n st = pick (eqb (fillRefusal t l n st) 0) (fill l n st) st
 
 -- unless the refusal is 0 nothing is done
 abbrev pub unless : ℕ → State → Turn → Turn
 unless number st turn = pick (eqb number 0) turn (refuses number st)
 
 -- what is asked of the state with n + 1 held
-abbrev pub filledBy : List ℕ → ℕ → State → (State → Turn) → Turn
-filledBy l n st asked = unless (fillRefusal l n st) st (asked (fill l n st))
+abbrev pub filledBy : ℕ → List ℕ → ℕ → State → (State → Turn) → Turn
+filledBy t l n st asked = unless (fillRefusal t l n st) st (asked (fill l n st))
 
 -- 33, last: the store is short of what is to be written
 abbrev pub storedBy : ℕ → State → Turn → Turn
 storedBy room st turn = pick (leb (length (turn .written)) room) turn (refuses 33 st)
 
 -- `fill(n)` reads until n + 1 are held or the list ends
-unfoldable pub fillBy : List ℕ → ℕ → State → Turn
-fillBy l n st = filledBy l n st (shows 0)
+unfoldable pub fillBy : ℕ → List ℕ → ℕ → State → Turn
+fillBy t l n st = filledBy t l n st (shows 0)
 
 -- `nth(n)`: a kind, 67 past the list's end. `peek` is `nth(0)`
-unfoldable pub nthBy : List ℕ → ℕ → State → Turn
-nthBy l n st = filledBy l n st (λ f. shows (getD (nthOf l n f) 0 0) f)
+unfoldable pub nthBy : ℕ → List ℕ → ℕ → State → Turn
+nthBy t l n st = filledBy t l n st (λ f. shows (getD (nthOf l n f) 0 0) f)
 
-unfoldable pub nthTokenBy : List ℕ → ℕ → State → Turn
-nthTokenBy l n st =
-    filledBy l n st
+unfoldable pub nthTokenBy : ℕ → List ℕ → ℕ → State → Turn
+nthTokenBy t l n st =
+    filledBy t l n st
     (λ f. record { state = f; answer = Done 0 (getD (nthOf l n f) 0 0) (getD (nthOf l n f) 1 0) (getD (nthOf l n f) 2 0); written = [] })
 
 -- `glued(n)` shows a kind only at count 0, else 67
 abbrev pub gluedKind : List ℕ → ℕ → Nums → List ℕ → List ℕ → ℕ
 gluedKind l n m held counts = pick (eqb (ringAt 8 counts (m .«held_at») n) 0) (getD (nthWords l n m held) 0 0) 67
 
-unfoldable pub gluedBy : List ℕ → ℕ → State → Turn
-gluedBy l n st = filledBy l n st (λ f. shows (gluedKind l n (f .nums) (f .held) (f .counts)) f)
+unfoldable pub gluedBy : ℕ → List ℕ → ℕ → State → Turn
+gluedBy t l n st = filledBy t l n st (λ f. shows (gluedKind l n (f .nums) (f .held) (f .counts)) f)
 
-unfoldable pub isEofBy : List ℕ → State → Turn
-isEofBy l st = filledBy l 0 st (λ f. shows (yes (eqb (getD (nthOf l 0 f) 0 0) 67)) f)
+unfoldable pub isEofBy : ℕ → List ℕ → State → Turn
+isEofBy t l st = filledBy t l 0 st (λ f. shows (yes (eqb (getD (nthOf l 0 f) 0 0) 67)) f)
 
 -- `flush_ws` emits what waits before the first held token, or all if none is held, and answers a point at that token's start, or the end
 abbrev pub flushTurn : List ℕ → State → Turn
 flushTurn l f = record { state = flushed f; answer = Done (whiteOf f) 0 (getD (nthOf l 0 f) 1 0) (getD (nthOf l 0 f) 1 0); written = whiteWords l f }
 
-unfoldable pub flushBy : List ℕ → ℕ → State → Turn
-flushBy l room st = filledBy l 0 st (λ f. storedBy room st (flushTurn l f))
+unfoldable pub flushBy : ℕ → List ℕ → ℕ → State → Turn
+flushBy t l room st = filledBy t l 0 st (λ f. storedBy room st (flushTurn l f))
 
 -- the front is emitted
 abbrev pub frontTurn : List ℕ → Looked → State → Turn
@@ -93,12 +93,12 @@ frontTurn l answer f = record { state = bumped f; answer = answer; written = fro
 abbrev pub bumpAnswer : ℕ → List ℕ → Looked
 bumpAnswer white words = Done (white + 1) (getD words 0 0) (getD words 1 0) (getD words 2 0)
 
-unfoldable pub bumpBy : List ℕ → ℕ → State → Turn
-bumpBy l room st = filledBy l 0 st (λ f. storedBy room st (frontTurn l (bumpAnswer (whiteOf f) (nthOf l 0 f)) f))
+unfoldable pub bumpBy : ℕ → List ℕ → ℕ → State → Turn
+bumpBy t l room st = filledBy t l 0 st (λ f. storedBy room st (frontTurn l (bumpAnswer (whiteOf f) (nthOf l 0 f)) f))
 
-unfoldable pub bumpIfBy : List ℕ → ℕ → ℕ → State → Turn
-bumpIfBy l kind room st =
-    filledBy l 0 st
+unfoldable pub bumpIfBy : ℕ → List ℕ → ℕ → ℕ → State → Turn
+bumpIfBy t l kind room st =
+    filledBy t l 0 st
     (λ f. storedBy room st (pick (eqb (getD (nthOf l 0 f) 0 0) kind) (frontTurn l (Done (whiteOf f + 1) 1 0 0) f) (shows 0 f)))
 
 -- n held tokens emitted, each with what waits before it
@@ -111,14 +111,14 @@ advanceWords l zero f = []
 advanceWords l (suc n) f = frontWords l f ++ advanceWords l n (bumped f)
 
 -- `advance(n)` fills nothing; 32 past the held tokens
-unfoldable pub advanceRefusal : List ℕ → ℕ → State → ℕ
-advanceRefusal l n st = pick (soundBy l st) (pick (leb n (st .nums .«held_len»)) 0 32) 34
+unfoldable pub advanceRefusal : ℕ → List ℕ → ℕ → State → ℕ
+advanceRefusal t l n st = pick (soundBy t l st) (pick (leb n (st .nums .«held_len»)) 0 32) 34
 
 abbrev pub advanceTurn : List ℕ → ℕ → State → Turn
 advanceTurn l n st = record { state = advanced n st; answer = Done (countSum (st .counts) n (st .nums .«held_at») + n) 0 0 0; written = advanceWords l n st }
 
-unfoldable pub advanceBy : List ℕ → ℕ → ℕ → State → Turn
-advanceBy l n room st = unless (advanceRefusal l n st) st (storedBy room st (advanceTurn l n st))
+unfoldable pub advanceBy : ℕ → List ℕ → ℕ → ℕ → State → Turn
+advanceBy t l n room st = unless (advanceRefusal t l n st) st (storedBy room st (advanceTurn l n st))
 
 -- the tokens from i on, n of them, held or end-of-file
 unfoldable pub arrayWords : List ℕ → ℕ → ℕ → Nums → List ℕ → List ℕ
@@ -126,11 +126,11 @@ arrayWords l zero i m held = []
 arrayWords l (suc n) i m held = nthWords l i m held ++ arrayWords l n (i + 1) m held
 
 -- `array(n)` puts n tokens into the store and emits none; 0 fills nothing
-unfoldable pub arrayRefusal : List ℕ → ℕ → State → ℕ
-arrayRefusal l n st = pick (eqb n 0) (pick (soundBy l st) 0 34) (fillRefusal l (n - 1) st)
+unfoldable pub arrayRefusal : ℕ → List ℕ → ℕ → State → ℕ
+arrayRefusal t l n st = pick (eqb n 0) (pick (soundBy t l st) 0 34) (fillRefusal t l (n - 1) st)
 
 abbrev pub arrayTurn : List ℕ → ℕ → State → Turn
 arrayTurn l n f = record { state = f; answer = Done n 0 0 0; written = arrayWords l n 0 (f .nums) (f .held) }
 
-unfoldable pub arrayBy : List ℕ → ℕ → ℕ → State → Turn
-arrayBy l n room st = unless (arrayRefusal l n st) st (storedBy room st (arrayTurn l n (gathers l (n - st .nums .«held_len») st)))
+unfoldable pub arrayBy : ℕ → List ℕ → ℕ → ℕ → State → Turn
+arrayBy t l n room st = unless (arrayRefusal t l n st) st (storedBy room st (arrayTurn l n (gathers l (n - st .nums .«held_len») st)))

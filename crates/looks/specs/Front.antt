@@ -5,10 +5,10 @@ use mathlib.Core.List.{List, [], _++_}
 use mathlib.Core.Bool.{Bool}
 use lib.Dec.{ltb, eqb}
 use lib.ListN.{getD}
+use Rattle.laws.specs.Bools.{pick}
 use Rattle.looks.specs.Buffer.{State, fill, ringAt, stateOf}
 use Rattle.looks.specs.Numbered.{eofWords, tokenAt}
 use Rattle.looks.specs.declared.state.Nums.{Nums}
-use Rattle.laws.specs.Bools.{pick}
 
 -- the words of the n-th held token, or the end-of-file token
 unfoldable pub nthWords : List ℕ → ℕ → Nums → List ℕ → List ℕ

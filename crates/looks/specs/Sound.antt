@@ -1,13 +1,24 @@
--- Document 01, refusal 34: the faults of a lent state over a list.
+-- Document 01, refusal 34: the faults of a lent list, and of a lent state over it.
 use Prim.Native.Nat.{ℕ, zero, suc, _+_, _%_}
 use mathlib.Core.List.{List}
 use mathlib.Core.Bool.{Bool, true, false}
 use lib.Dec.{leb, ltb}
 use lib.ListN.{getD}
+use Rattle.laws.specs.Bools.{both, either, same}
 use Rattle.looks.specs.Buffer.{State}
 use Rattle.looks.specs.Numbered.{isWhite, kindAt, tokenCount}
 use Rattle.looks.specs.declared.state.Nums.{Nums}
-use Rattle.laws.specs.Bools.{both, same}
+use Rattle.rows.specs.Rows.{listCheck}
+use Rattle.rows.specs.declared.Checked.{Checked}
+use Rattle.rows.specs.declared.Checked.the-variants.{Faulty, Good}
+
+abbrev pub good : Checked → Bool
+good Good = true
+good (Faulty r) = false
+
+-- a list not of whole records, or faulty by 42 or 43
+unfoldable pub wholeBy : List ℕ → Bool
+wholeBy l = good (listCheck l)
 
 -- a held or waiting number x ascends, from low on below top, and is of white space or is not
 abbrev pub followsBy : Bool → List ℕ → ℕ → ℕ → ℕ → Bool
@@ -30,10 +41,14 @@ boundedBy l m =
     both (both (leb (m .«held_len») 8) (leb (m .«wait_len») 256))
     (both (both (ltb (m .«held_at») 8) (ltb (m .«wait_at») 256)) (leb (m .next) (tokenCount l)))
 
--- and held or waiting numbers that do not ascend below the next one or have the wrong kind, and counts that sum above the queue
-unfoldable pub soundBy : List ℕ → State → Bool
-soundBy l st =
-    both (boundedBy l (st .nums))
-    (both (ascendsBy false l 8 (st .held) (st .nums .«held_len») (st .nums .«held_at») 0 (st .nums .next))
-    (both (ascendsBy true l 256 (st .waiting) (st .nums .«wait_len») (st .nums .«wait_at») 0 (st .nums .next))
-    (leb (countSum (st .counts) (st .nums .«held_len») (st .nums .«held_at»)) (st .nums .«wait_len»))))
+-- held or waiting numbers that do not ascend below the next one or have the wrong kind
+unfoldable pub orderedBy : List ℕ → State → Bool
+orderedBy l st =
+    both (ascendsBy false l 8 (st .held) (st .nums .«held_len») (st .nums .«held_at») 0 (st .nums .next))
+    (ascendsBy true l 256 (st .waiting) (st .nums .«wait_len») (st .nums .«wait_at») 0 (st .nums .next))
+
+-- all that 34 refuses, with counts that sum above the queue; where t is not 0 the list and the order were tested before, and are not here
+unfoldable pub soundBy : ℕ → List ℕ → State → Bool
+soundBy t l st =
+    both (both (boundedBy l (st .nums)) (leb (countSum (st .counts) (st .nums .«held_len») (st .nums .«held_at»)) (st .nums .«wait_len»)))
+    (either (ltb 0 t) (both (wholeBy l) (orderedBy l st)))

@@ -5,14 +5,14 @@ use mathlib.Core.List.{List, [], _++_}
 use mathlib.Core.Bool.{Bool, true}
 use lib.Dec.{ltb, eqb}
 use lib.ListN.{getD, length}
+use Rattle.laws.specs.Bools.{both, pick}
 use Rattle.looks.specs.Buffer.{State, fill, fits, gatherNums, stateOf}
+use Rattle.looks.specs.Calls.{Turn, bumped, storedBy, unless}
 use Rattle.looks.specs.Front.{frontWords, nthWords, whiteOf, yes}
 use Rattle.looks.specs.Numbered.{tokenCount}
 use Rattle.looks.specs.Sound.{countSum, soundBy}
 use Rattle.looks.specs.declared.look.Looked.the-variants.{Done}
 use Rattle.looks.specs.declared.state.Nums.{Nums}
-use Rattle.laws.specs.Bools.{both, pick}
-use Rattle.looks.specs.Calls.{Turn, bumped, storedBy, unless}
 use Rattle.looks.specs.declared.whiles.Plan.{Plan}
 
 -- the front of a filled state is a held token of the kind
@@ -60,14 +60,14 @@ whilePlan l kind st = planOf l kind 0 (tokensLeft l (st .nums)) st
 abbrev pub whileRun : List ℕ → ℕ → State → Run
 whileRun l kind st = runOf l kind (tokensLeft l (st .nums)) (fill l 0 st)
 
-unfoldable pub whileRefusal : List ℕ → ℕ → State → ℕ
-whileRefusal l kind st = pick (soundBy l st) (whilePlan l kind st .refusal) 34
+unfoldable pub whileRefusal : ℕ → List ℕ → ℕ → State → ℕ
+whileRefusal t l kind st = pick (soundBy t l st) (whilePlan l kind st .refusal) 34
 
 abbrev pub whileTurn : Run → Turn
 whileTurn r = record { state = r .state; answer = Done (r .count) (yes (ltb 0 (r .count))) 0 0; written = r .written }
 
-unfoldable pub bumpWhileBy : List ℕ → ℕ → ℕ → State → Turn
-bumpWhileBy l kind room st = unless (whileRefusal l kind st) st (storedBy room st (whileTurn (whileRun l kind st)))
+unfoldable pub bumpWhileBy : ℕ → List ℕ → ℕ → ℕ → State → Turn
+bumpWhileBy t l kind room st = unless (whileRefusal t l kind st) st (storedBy room st (whileTurn (whileRun l kind st)))
 
 -- the numbers of a state once it is filled
 abbrev pub fillNums : List ℕ → Nums → Nums

@@ -21,24 +21,25 @@ ghost use mathlib.Core.Path.{_≡_};
 ghost use lib.Dec.{eqb};
 ghost use lib.Seq.{sets};
 ghost use lib.ListN.{length};
-ghost use Rattle.looks.specs.Buffer.{stateOf};
-ghost use Rattle.looks.specs.Sound.{countSum};
 ghost use Rattle.laws.specs.Bools.{pick};
+ghost use Rattle.looks.specs.Buffer.{stateOf};
 ghost use Rattle.looks.specs.Calls.{advanceBy, advanceRefusal, advanceWords, advanced, arrayBy, arrayRefusal, arrayWords, bumpBy, bumpIfBy, flushBy};
+ghost use Rattle.looks.specs.Sound.{countSum};
 
 pub fn bump_at(
     nums: Nums,
     held: &mut [u32; 8],
     counts: &mut [u32; 8],
     waiting: &mut [u32; 256],
+    tested: u32,
     list: &[u32],
     out: &mut [u32],
 ) -> After
-    ensures { λ r. ⌜ (stateOf (r .nums) (now (held .exit)) (now (counts .exit)) (now (waiting .exit)) ≡ bumpBy (now (list .entry)) (length (now (out .entry))) (stateOf nums (now (held .entry)) (now (counts .entry)) (now (waiting .entry))) .state)
-        × (r .answer ≡ bumpBy (now (list .entry)) (length (now (out .entry))) (stateOf nums (now (held .entry)) (now (counts .entry)) (now (waiting .entry))) .answer)
-        × (now (out .exit) ≡ sets (now (out .entry)) 0 (bumpBy (now (list .entry)) (length (now (out .entry))) (stateOf nums (now (held .entry)) (now (counts .entry)) (now (waiting .entry))) .written)) ⌝ }
+    ensures { λ r. ⌜ (stateOf (r .nums) (now (held .exit)) (now (counts .exit)) (now (waiting .exit)) ≡ bumpBy tested (now (list .entry)) (length (now (out .entry))) (stateOf nums (now (held .entry)) (now (counts .entry)) (now (waiting .entry))) .state)
+        × (r .answer ≡ bumpBy tested (now (list .entry)) (length (now (out .entry))) (stateOf nums (now (held .entry)) (now (counts .entry)) (now (waiting .entry))) .answer)
+        × (now (out .exit) ≡ sets (now (out .entry)) 0 (bumpBy tested (now (list .entry)) (length (now (out .entry))) (stateOf nums (now (held .entry)) (now (counts .entry)) (now (waiting .entry))) .written)) ⌝ }
 {
-    let refusal = fill_refusal(nums, held, counts, waiting, 0, list);
+    let refusal = fill_refusal(nums, held, counts, waiting, tested, 0, list);
     if refusal != 0 {
         return refuse(nums, refusal);
     }
@@ -58,14 +59,15 @@ pub fn flush_at(
     held: &mut [u32; 8],
     counts: &mut [u32; 8],
     waiting: &mut [u32; 256],
+    tested: u32,
     list: &[u32],
     out: &mut [u32],
 ) -> After
-    ensures { λ r. ⌜ (stateOf (r .nums) (now (held .exit)) (now (counts .exit)) (now (waiting .exit)) ≡ flushBy (now (list .entry)) (length (now (out .entry))) (stateOf nums (now (held .entry)) (now (counts .entry)) (now (waiting .entry))) .state)
-        × (r .answer ≡ flushBy (now (list .entry)) (length (now (out .entry))) (stateOf nums (now (held .entry)) (now (counts .entry)) (now (waiting .entry))) .answer)
-        × (now (out .exit) ≡ sets (now (out .entry)) 0 (flushBy (now (list .entry)) (length (now (out .entry))) (stateOf nums (now (held .entry)) (now (counts .entry)) (now (waiting .entry))) .written)) ⌝ }
+    ensures { λ r. ⌜ (stateOf (r .nums) (now (held .exit)) (now (counts .exit)) (now (waiting .exit)) ≡ flushBy tested (now (list .entry)) (length (now (out .entry))) (stateOf nums (now (held .entry)) (now (counts .entry)) (now (waiting .entry))) .state)
+        × (r .answer ≡ flushBy tested (now (list .entry)) (length (now (out .entry))) (stateOf nums (now (held .entry)) (now (counts .entry)) (now (waiting .entry))) .answer)
+        × (now (out .exit) ≡ sets (now (out .entry)) 0 (flushBy tested (now (list .entry)) (length (now (out .entry))) (stateOf nums (now (held .entry)) (now (counts .entry)) (now (waiting .entry))) .written)) ⌝ }
 {
-    let refusal = fill_refusal(nums, held, counts, waiting, 0, list);
+    let refusal = fill_refusal(nums, held, counts, waiting, tested, 0, list);
     if refusal != 0 {
         return refuse(nums, refusal);
     }
@@ -104,15 +106,16 @@ pub fn bump_if_at(
     held: &mut [u32; 8],
     counts: &mut [u32; 8],
     waiting: &mut [u32; 256],
+    tested: u32,
     kind: u32,
     list: &[u32],
     out: &mut [u32],
 ) -> After
-    ensures { λ r. ⌜ (stateOf (r .nums) (now (held .exit)) (now (counts .exit)) (now (waiting .exit)) ≡ bumpIfBy (now (list .entry)) kind (length (now (out .entry))) (stateOf nums (now (held .entry)) (now (counts .entry)) (now (waiting .entry))) .state)
-        × (r .answer ≡ bumpIfBy (now (list .entry)) kind (length (now (out .entry))) (stateOf nums (now (held .entry)) (now (counts .entry)) (now (waiting .entry))) .answer)
-        × (now (out .exit) ≡ sets (now (out .entry)) 0 (bumpIfBy (now (list .entry)) kind (length (now (out .entry))) (stateOf nums (now (held .entry)) (now (counts .entry)) (now (waiting .entry))) .written)) ⌝ }
+    ensures { λ r. ⌜ (stateOf (r .nums) (now (held .exit)) (now (counts .exit)) (now (waiting .exit)) ≡ bumpIfBy tested (now (list .entry)) kind (length (now (out .entry))) (stateOf nums (now (held .entry)) (now (counts .entry)) (now (waiting .entry))) .state)
+        × (r .answer ≡ bumpIfBy tested (now (list .entry)) kind (length (now (out .entry))) (stateOf nums (now (held .entry)) (now (counts .entry)) (now (waiting .entry))) .answer)
+        × (now (out .exit) ≡ sets (now (out .entry)) 0 (bumpIfBy tested (now (list .entry)) kind (length (now (out .entry))) (stateOf nums (now (held .entry)) (now (counts .entry)) (now (waiting .entry))) .written)) ⌝ }
 {
-    let refusal = fill_refusal(nums, held, counts, waiting, 0, list);
+    let refusal = fill_refusal(nums, held, counts, waiting, tested, 0, list);
     if refusal != 0 {
         return refuse(nums, refusal);
     }
@@ -134,12 +137,13 @@ fn advance_refusal(
     held: &[u32; 8],
     counts: &[u32; 8],
     waiting: &[u32; 256],
+    tested: u32,
     n: usize,
     list: &[u32],
 ) -> u32
-    ensures { λ r. ⌜ r ≡ advanceRefusal (now (list .entry)) n (stateOf nums (now (held .entry)) (now (counts .entry)) (now (waiting .entry))) ⌝ }
+    ensures { λ r. ⌜ r ≡ advanceRefusal tested (now (list .entry)) n (stateOf nums (now (held .entry)) (now (counts .entry)) (now (waiting .entry))) ⌝ }
 {
-    if !sound(nums, held, counts, waiting, list) {
+    if !sound(nums, held, counts, waiting, tested, list) {
         return 34;
     }
     if nums.held_len < n {
@@ -179,15 +183,16 @@ pub fn advance_at(
     held: &mut [u32; 8],
     counts: &mut [u32; 8],
     waiting: &mut [u32; 256],
+    tested: u32,
     n: usize,
     list: &[u32],
     out: &mut [u32],
 ) -> After
-    ensures { λ r. ⌜ (stateOf (r .nums) (now (held .exit)) (now (counts .exit)) (now (waiting .exit)) ≡ advanceBy (now (list .entry)) n (length (now (out .entry))) (stateOf nums (now (held .entry)) (now (counts .entry)) (now (waiting .entry))) .state)
-        × (r .answer ≡ advanceBy (now (list .entry)) n (length (now (out .entry))) (stateOf nums (now (held .entry)) (now (counts .entry)) (now (waiting .entry))) .answer)
-        × (now (out .exit) ≡ sets (now (out .entry)) 0 (advanceBy (now (list .entry)) n (length (now (out .entry))) (stateOf nums (now (held .entry)) (now (counts .entry)) (now (waiting .entry))) .written)) ⌝ }
+    ensures { λ r. ⌜ (stateOf (r .nums) (now (held .exit)) (now (counts .exit)) (now (waiting .exit)) ≡ advanceBy tested (now (list .entry)) n (length (now (out .entry))) (stateOf nums (now (held .entry)) (now (counts .entry)) (now (waiting .entry))) .state)
+        × (r .answer ≡ advanceBy tested (now (list .entry)) n (length (now (out .entry))) (stateOf nums (now (held .entry)) (now (counts .entry)) (now (waiting .entry))) .answer)
+        × (now (out .exit) ≡ sets (now (out .entry)) 0 (advanceBy tested (now (list .entry)) n (length (now (out .entry))) (stateOf nums (now (held .entry)) (now (counts .entry)) (now (waiting .entry))) .written)) ⌝ }
 {
-    let refusal = advance_refusal(nums, held, counts, waiting, n, list);
+    let refusal = advance_refusal(nums, held, counts, waiting, tested, n, list);
     if refusal != 0 {
         return refuse(nums, refusal);
     }
@@ -204,15 +209,16 @@ fn array_refusal(
     held: &[u32; 8],
     counts: &[u32; 8],
     waiting: &[u32; 256],
+    tested: u32,
     n: usize,
     list: &[u32],
 ) -> u32
-    ensures { λ r. ⌜ r ≡ arrayRefusal (now (list .entry)) n (stateOf nums (now (held .entry)) (now (counts .entry)) (now (waiting .entry))) ⌝ }
+    ensures { λ r. ⌜ r ≡ arrayRefusal tested (now (list .entry)) n (stateOf nums (now (held .entry)) (now (counts .entry)) (now (waiting .entry))) ⌝ }
 {
     if 0 < n {
-        return fill_refusal(nums, held, counts, waiting, n - 1, list);
+        return fill_refusal(nums, held, counts, waiting, tested, n - 1, list);
     }
-    if !sound(nums, held, counts, waiting, list) {
+    if !sound(nums, held, counts, waiting, tested, list) {
         return 34;
     }
     0
@@ -235,15 +241,16 @@ pub fn array_at(
     held: &mut [u32; 8],
     counts: &mut [u32; 8],
     waiting: &mut [u32; 256],
+    tested: u32,
     n: usize,
     list: &[u32],
     out: &mut [u32],
 ) -> After
-    ensures { λ r. ⌜ (stateOf (r .nums) (now (held .exit)) (now (counts .exit)) (now (waiting .exit)) ≡ arrayBy (now (list .entry)) n (length (now (out .entry))) (stateOf nums (now (held .entry)) (now (counts .entry)) (now (waiting .entry))) .state)
-        × (r .answer ≡ arrayBy (now (list .entry)) n (length (now (out .entry))) (stateOf nums (now (held .entry)) (now (counts .entry)) (now (waiting .entry))) .answer)
-        × (now (out .exit) ≡ sets (now (out .entry)) 0 (arrayBy (now (list .entry)) n (length (now (out .entry))) (stateOf nums (now (held .entry)) (now (counts .entry)) (now (waiting .entry))) .written)) ⌝ }
+    ensures { λ r. ⌜ (stateOf (r .nums) (now (held .exit)) (now (counts .exit)) (now (waiting .exit)) ≡ arrayBy tested (now (list .entry)) n (length (now (out .entry))) (stateOf nums (now (held .entry)) (now (counts .entry)) (now (waiting .entry))) .state)
+        × (r .answer ≡ arrayBy tested (now (list .entry)) n (length (now (out .entry))) (stateOf nums (now (held .entry)) (now (counts .entry)) (now (waiting .entry))) .answer)
+        × (now (out .exit) ≡ sets (now (out .entry)) 0 (arrayBy tested (now (list .entry)) n (length (now (out .entry))) (stateOf nums (now (held .entry)) (now (counts .entry)) (now (waiting .entry))) .written)) ⌝ }
 {
-    let refusal = array_refusal(nums, held, counts, waiting, n, list);
+    let refusal = array_refusal(nums, held, counts, waiting, tested, n, list);
     if refusal != 0 {
         return refuse(nums, refusal);
     }

@@ -37,6 +37,9 @@ pub(crate) fn fits_for(nums: Nums, times: usize, list: &[u32]) -> bool
     requires { ⌜ (nums .next ≤ tokenCount (now list)) × Roomy nums × (nums .«held_len» + times ≤ 8) × (nums .«wait_len» ≤ 256) ⌝ }
     ensures { λ r. ⌜ r ≡ fitsFor (now (list .entry)) times nums ⌝ }
 {
+    if nums.keep == 0 {
+        return true;
+    }
     let count = count_of(list);
     let mut n = nums;
     let mut left = times;

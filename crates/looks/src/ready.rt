@@ -30,13 +30,17 @@ pub(crate) fn fill_refusal(
     held: &[u32; 8],
     counts: &[u32; 8],
     waiting: &[u32; 256],
+    tested: u32,
     n: usize,
     list: &[u32],
 ) -> u32
-    ensures { λ r. ⌜ r ≡ fillRefusal (now (list .entry)) n (stateOf nums (now (held .entry)) (now (counts .entry)) (now (waiting .entry))) ⌝ }
+    ensures { λ r. ⌜ r ≡ fillRefusal tested (now (list .entry)) n (stateOf nums (now (held .entry)) (now (counts .entry)) (now (waiting .entry))) ⌝ }
 {
-    if !sound(nums, held, counts, waiting, list) {
+    if !sound(nums, held, counts, waiting, tested, list) {
         return 34;
+    }
+    if n < nums.held_len {
+        return 0;
     }
     if 7 < n {
         return 30;
@@ -52,13 +56,14 @@ pub(crate) fn filled_at(
     held: &mut [u32; 8],
     counts: &mut [u32; 8],
     waiting: &mut [u32; 256],
+    tested: u32,
     n: usize,
     list: &[u32],
 ) -> Filled
-    ensures { λ r. ⌜ (r .refusal ≡ fillRefusal (now (list .entry)) n (stateOf nums (now (held .entry)) (now (counts .entry)) (now (waiting .entry))))
-        × (stateOf (r .nums) (now (held .exit)) (now (counts .exit)) (now (waiting .exit)) ≡ filledTo (now (list .entry)) n (stateOf nums (now (held .entry)) (now (counts .entry)) (now (waiting .entry)))) ⌝ }
+    ensures { λ r. ⌜ (r .refusal ≡ fillRefusal tested (now (list .entry)) n (stateOf nums (now (held .entry)) (now (counts .entry)) (now (waiting .entry))))
+        × (stateOf (r .nums) (now (held .exit)) (now (counts .exit)) (now (waiting .exit)) ≡ filledTo tested (now (list .entry)) n (stateOf nums (now (held .entry)) (now (counts .entry)) (now (waiting .entry)))) ⌝ }
 {
-    let refusal = fill_refusal(nums, held, counts, waiting, n, list);
+    let refusal = fill_refusal(nums, held, counts, waiting, tested, n, list);
     if refusal != 0 {
         return Filled { refusal, nums };
     }

@@ -16,13 +16,14 @@ pub fn fill_at(
     held: &mut [u32; 8],
     counts: &mut [u32; 8],
     waiting: &mut [u32; 256],
+    tested: u32,
     n: usize,
     list: &[u32],
 ) -> After
-    ensures { λ r. ⌜ (stateOf (r .nums) (now (held .exit)) (now (counts .exit)) (now (waiting .exit)) ≡ fillBy (now (list .entry)) n (stateOf nums (now (held .entry)) (now (counts .entry)) (now (waiting .entry))) .state)
-        × (r .answer ≡ fillBy (now (list .entry)) n (stateOf nums (now (held .entry)) (now (counts .entry)) (now (waiting .entry))) .answer) ⌝ }
+    ensures { λ r. ⌜ (stateOf (r .nums) (now (held .exit)) (now (counts .exit)) (now (waiting .exit)) ≡ fillBy tested (now (list .entry)) n (stateOf nums (now (held .entry)) (now (counts .entry)) (now (waiting .entry))) .state)
+        × (r .answer ≡ fillBy tested (now (list .entry)) n (stateOf nums (now (held .entry)) (now (counts .entry)) (now (waiting .entry))) .answer) ⌝ }
 {
-    let f = filled_at(nums, held, counts, waiting, n, list);
+    let f = filled_at(nums, held, counts, waiting, tested, n, list);
     let m = f.nums;
     if f.refusal != 0 {
         return refuse(m, f.refusal);
@@ -35,13 +36,22 @@ pub fn nth_at(
     held: &mut [u32; 8],
     counts: &mut [u32; 8],
     waiting: &mut [u32; 256],
+    tested: u32,
     n: usize,
     list: &[u32],
 ) -> After
-    ensures { λ r. ⌜ (stateOf (r .nums) (now (held .exit)) (now (counts .exit)) (now (waiting .exit)) ≡ nthBy (now (list .entry)) n (stateOf nums (now (held .entry)) (now (counts .entry)) (now (waiting .entry))) .state)
-        × (r .answer ≡ nthBy (now (list .entry)) n (stateOf nums (now (held .entry)) (now (counts .entry)) (now (waiting .entry))) .answer) ⌝ }
+    ensures { λ r. ⌜ (stateOf (r .nums) (now (held .exit)) (now (counts .exit)) (now (waiting .exit)) ≡ nthBy tested (now (list .entry)) n (stateOf nums (now (held .entry)) (now (counts .entry)) (now (waiting .entry))) .state)
+        × (r .answer ≡ nthBy tested (now (list .entry)) n (stateOf nums (now (held .entry)) (now (counts .entry)) (now (waiting .entry))) .answer) ⌝ }
 {
-    let f = filled_at(nums, &mut *held, &mut *counts, &mut *waiting, n, list);
+    let f = filled_at(
+        nums,
+        &mut *held,
+        &mut *counts,
+        &mut *waiting,
+        tested,
+        n,
+        list,
+    );
     let m = f.nums;
     if f.refusal != 0 {
         return refuse(m, f.refusal);
@@ -55,12 +65,13 @@ pub fn peek_at(
     held: &mut [u32; 8],
     counts: &mut [u32; 8],
     waiting: &mut [u32; 256],
+    tested: u32,
     list: &[u32],
 ) -> After
-    ensures { λ r. ⌜ (stateOf (r .nums) (now (held .exit)) (now (counts .exit)) (now (waiting .exit)) ≡ nthBy (now (list .entry)) 0 (stateOf nums (now (held .entry)) (now (counts .entry)) (now (waiting .entry))) .state)
-        × (r .answer ≡ nthBy (now (list .entry)) 0 (stateOf nums (now (held .entry)) (now (counts .entry)) (now (waiting .entry))) .answer) ⌝ }
+    ensures { λ r. ⌜ (stateOf (r .nums) (now (held .exit)) (now (counts .exit)) (now (waiting .exit)) ≡ nthBy tested (now (list .entry)) 0 (stateOf nums (now (held .entry)) (now (counts .entry)) (now (waiting .entry))) .state)
+        × (r .answer ≡ nthBy tested (now (list .entry)) 0 (stateOf nums (now (held .entry)) (now (counts .entry)) (now (waiting .entry))) .answer) ⌝ }
 {
-    nth_at(nums, held, counts, waiting, 0, list)
+    nth_at(nums, held, counts, waiting, tested, 0, list)
 }
 
 pub fn nth_token_at(
@@ -68,13 +79,22 @@ pub fn nth_token_at(
     held: &mut [u32; 8],
     counts: &mut [u32; 8],
     waiting: &mut [u32; 256],
+    tested: u32,
     n: usize,
     list: &[u32],
 ) -> After
-    ensures { λ r. ⌜ (stateOf (r .nums) (now (held .exit)) (now (counts .exit)) (now (waiting .exit)) ≡ nthTokenBy (now (list .entry)) n (stateOf nums (now (held .entry)) (now (counts .entry)) (now (waiting .entry))) .state)
-        × (r .answer ≡ nthTokenBy (now (list .entry)) n (stateOf nums (now (held .entry)) (now (counts .entry)) (now (waiting .entry))) .answer) ⌝ }
+    ensures { λ r. ⌜ (stateOf (r .nums) (now (held .exit)) (now (counts .exit)) (now (waiting .exit)) ≡ nthTokenBy tested (now (list .entry)) n (stateOf nums (now (held .entry)) (now (counts .entry)) (now (waiting .entry))) .state)
+        × (r .answer ≡ nthTokenBy tested (now (list .entry)) n (stateOf nums (now (held .entry)) (now (counts .entry)) (now (waiting .entry))) .answer) ⌝ }
 {
-    let f = filled_at(nums, &mut *held, &mut *counts, &mut *waiting, n, list);
+    let f = filled_at(
+        nums,
+        &mut *held,
+        &mut *counts,
+        &mut *waiting,
+        tested,
+        n,
+        list,
+    );
     let m = f.nums;
     if f.refusal != 0 {
         return refuse(m, f.refusal);
@@ -98,13 +118,22 @@ pub fn glued_at(
     held: &mut [u32; 8],
     counts: &mut [u32; 8],
     waiting: &mut [u32; 256],
+    tested: u32,
     n: usize,
     list: &[u32],
 ) -> After
-    ensures { λ r. ⌜ (stateOf (r .nums) (now (held .exit)) (now (counts .exit)) (now (waiting .exit)) ≡ gluedBy (now (list .entry)) n (stateOf nums (now (held .entry)) (now (counts .entry)) (now (waiting .entry))) .state)
-        × (r .answer ≡ gluedBy (now (list .entry)) n (stateOf nums (now (held .entry)) (now (counts .entry)) (now (waiting .entry))) .answer) ⌝ }
+    ensures { λ r. ⌜ (stateOf (r .nums) (now (held .exit)) (now (counts .exit)) (now (waiting .exit)) ≡ gluedBy tested (now (list .entry)) n (stateOf nums (now (held .entry)) (now (counts .entry)) (now (waiting .entry))) .state)
+        × (r .answer ≡ gluedBy tested (now (list .entry)) n (stateOf nums (now (held .entry)) (now (counts .entry)) (now (waiting .entry))) .answer) ⌝ }
 {
-    let f = filled_at(nums, &mut *held, &mut *counts, &mut *waiting, n, list);
+    let f = filled_at(
+        nums,
+        &mut *held,
+        &mut *counts,
+        &mut *waiting,
+        tested,
+        n,
+        list,
+    );
     let m = f.nums;
     if f.refusal != 0 {
         return refuse(m, f.refusal);
@@ -117,12 +146,21 @@ pub fn is_eof_at(
     held: &mut [u32; 8],
     counts: &mut [u32; 8],
     waiting: &mut [u32; 256],
+    tested: u32,
     list: &[u32],
 ) -> After
-    ensures { λ r. ⌜ (stateOf (r .nums) (now (held .exit)) (now (counts .exit)) (now (waiting .exit)) ≡ isEofBy (now (list .entry)) (stateOf nums (now (held .entry)) (now (counts .entry)) (now (waiting .entry))) .state)
-        × (r .answer ≡ isEofBy (now (list .entry)) (stateOf nums (now (held .entry)) (now (counts .entry)) (now (waiting .entry))) .answer) ⌝ }
+    ensures { λ r. ⌜ (stateOf (r .nums) (now (held .exit)) (now (counts .exit)) (now (waiting .exit)) ≡ isEofBy tested (now (list .entry)) (stateOf nums (now (held .entry)) (now (counts .entry)) (now (waiting .entry))) .state)
+        × (r .answer ≡ isEofBy tested (now (list .entry)) (stateOf nums (now (held .entry)) (now (counts .entry)) (now (waiting .entry))) .answer) ⌝ }
 {
-    let f = filled_at(nums, &mut *held, &mut *counts, &mut *waiting, 0, list);
+    let f = filled_at(
+        nums,
+        &mut *held,
+        &mut *counts,
+        &mut *waiting,
+        tested,
+        0,
+        list,
+    );
     let m = f.nums;
     if f.refusal != 0 {
         return refuse(m, f.refusal);

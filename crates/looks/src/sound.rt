@@ -1,14 +1,25 @@
-// Refusal 34: the faults of a lent state.
+// Refusal 34: the faults of a lent list, and of a lent state over it.
 use crate::list::count_of;
 use crate::list::is_white;
 use crate::list::kind_at;
 use crate::list::wide;
 use crate::state::Nums;
+use rows::Checked;
+use rows::check_list;
 ghost use Prim.Native.Nat.{_≤_, _<_};
 ghost use mathlib.Core.Path.{_≡_};
 ghost use lib.ListN.{length};
 ghost use Rattle.looks.specs.Buffer.{stateOf};
-ghost use Rattle.looks.specs.Sound.{ascendsBy, boundedBy, countSum, followsBy, soundBy};
+ghost use Rattle.looks.specs.Sound.{ascendsBy, boundedBy, countSum, followsBy, soundBy, wholeBy};
+
+fn whole(list: &[u32]) -> bool
+    ensures { λ r. ⌜ r ≡ wholeBy (now (list .entry)) ⌝ }
+{
+    match check_list(list) {
+        Checked::Good => true,
+        Checked::Faulty { .. } => false,
+    }
+}
 
 fn bounded(nums: Nums, list: &[u32]) -> bool
     ensures { λ r. ⌜ r ≡ boundedBy (now (list .entry)) nums ⌝ }
@@ -74,23 +85,31 @@ pub(crate) fn counts_sum(counts: &[u32; 8], count: usize, at: usize) -> usize
     sum
 }
 
+// Unless `tested` is 0 the caller tested the list and the order of the numbers before.
 pub(crate) fn sound(
     nums: Nums,
     held: &[u32; 8],
     counts: &[u32; 8],
     waiting: &[u32; 256],
+    tested: u32,
     list: &[u32],
 ) -> bool
-    ensures { λ r. ⌜ r ≡ soundBy (now (list .entry)) (stateOf nums (now (held .entry)) (now (counts .entry)) (now (waiting .entry))) ⌝ }
+    ensures { λ r. ⌜ r ≡ soundBy tested (now (list .entry)) (stateOf nums (now (held .entry)) (now (counts .entry)) (now (waiting .entry))) ⌝ }
 {
     if !bounded(nums, list) {
+        return false;
+    }
+    if nums.wait_len < counts_sum(counts, nums.held_len, nums.held_at) {
+        return false;
+    }
+    if 0 < tested {
+        return true;
+    }
+    if !whole(list) {
         return false;
     }
     if !ascends(false, list, held, nums.held_len, nums.held_at, nums.next) {
         return false;
     }
-    if !ascends(true, list, waiting, nums.wait_len, nums.wait_at, nums.next) {
-        return false;
-    }
-    counts_sum(counts, nums.held_len, nums.held_at) <= nums.wait_len
+    ascends(true, list, waiting, nums.wait_len, nums.wait_at, nums.next)
 }

@@ -21,10 +21,10 @@ ghost use mathlib.Core.Path.{_≡_};
 ghost use lib.Dec.{ltb, eqb};
 ghost use lib.Seq.{sets};
 ghost use lib.ListN.{length};
+ghost use Rattle.laws.specs.Bools.{pick};
 ghost use Rattle.looks.specs.Buffer.{Roomy, stateOf};
 ghost use Rattle.looks.specs.Front.{yes};
 ghost use Rattle.looks.specs.Numbered.{tokenCount};
-ghost use Rattle.laws.specs.Bools.{pick};
 ghost use Rattle.looks.specs.While.{Plannable, Planned, bumpWhileBy, fillNums, goesOn, whilePlan, whileRun};
 
 // The refusal, or 0, and how many tokens are to be emitted.
@@ -147,15 +147,16 @@ pub fn bump_while_at(
     held: &mut [u32; 8],
     counts: &mut [u32; 8],
     waiting: &mut [u32; 256],
+    tested: u32,
     kind: u32,
     list: &[u32],
     out: &mut [u32],
 ) -> After
-    ensures { λ r. ⌜ (stateOf (r .nums) (now (held .exit)) (now (counts .exit)) (now (waiting .exit)) ≡ bumpWhileBy (now (list .entry)) kind (length (now (out .entry))) (stateOf nums (now (held .entry)) (now (counts .entry)) (now (waiting .entry))) .state)
-        × (r .answer ≡ bumpWhileBy (now (list .entry)) kind (length (now (out .entry))) (stateOf nums (now (held .entry)) (now (counts .entry)) (now (waiting .entry))) .answer)
-        × (now (out .exit) ≡ sets (now (out .entry)) 0 (bumpWhileBy (now (list .entry)) kind (length (now (out .entry))) (stateOf nums (now (held .entry)) (now (counts .entry)) (now (waiting .entry))) .written)) ⌝ }
+    ensures { λ r. ⌜ (stateOf (r .nums) (now (held .exit)) (now (counts .exit)) (now (waiting .exit)) ≡ bumpWhileBy tested (now (list .entry)) kind (length (now (out .entry))) (stateOf nums (now (held .entry)) (now (counts .entry)) (now (waiting .entry))) .state)
+        × (r .answer ≡ bumpWhileBy tested (now (list .entry)) kind (length (now (out .entry))) (stateOf nums (now (held .entry)) (now (counts .entry)) (now (waiting .entry))) .answer)
+        × (now (out .exit) ≡ sets (now (out .entry)) 0 (bumpWhileBy tested (now (list .entry)) kind (length (now (out .entry))) (stateOf nums (now (held .entry)) (now (counts .entry)) (now (waiting .entry))) .written)) ⌝ }
 {
-    if !sound(nums, held, counts, waiting, list) {
+    if !sound(nums, held, counts, waiting, tested, list) {
         return refuse(nums, 34);
     }
     let p = plan_while(nums, held, counts, kind, list);

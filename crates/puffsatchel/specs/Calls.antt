@@ -14,7 +14,7 @@ use Rattle.sound.specs.Source.{sourceTest}
 
 -- goes up with every change of a call, of a number or of what is promised
 abbrev pub version : ℕ
-version = 1
+version = 2
 
 abbrev pub testTells : List ℕ → Told
 testTells s = ofTested (sourceTest s)

@@ -5,7 +5,7 @@ use answers::tell;
 ghost use mathlib.Core.Path.{_≡_};
 ghost use Rattle.puffsatchel.specs.Calls.{listLeaves, listTells, loadLeaves, loadTells, nextTells, outlineLeaves, outlineTells, readTells, storeLeaves, storeTells, testTells, unescapeLeaves, unescapeTells, version};
 
-const VERSION: u32 = 1;
+const VERSION: u32 = 2;
 
 // A number that names none of the five forms. No document uses it.
 const NO_SUCH_FORM: u32 = 5;

@@ -1,18 +1,15 @@
 -- Any two results that a call's promise allows are equal: the result, the record, the state and the store. Assumes nothing.
 use Prim.Native.Nat.{ℕ}
-use mathlib.Core.Path.{_≡_, ap}
+use mathlib.Core.Path.{_≡_}
 use mathlib.Core.List.{List}
 use lib.Seq.{sets}
 use Rattle.laws.proofs.Determined.{determined}
 use Rattle.look_answers.specs.Told.{numberTold, wordsTold}
-use Rattle.lookahead.specs.View.{viewOf}
-use Rattle.lookahead.specs.declared.ahead.Ahead.{Ahead}
+use Rattle.ahead.proofs.Lent.{lent}
+use Rattle.ahead.specs.View.{viewOf}
+use Rattle.ahead.specs.declared.Ahead.{Ahead}
 use Rattle.looks.specs.Buffer.{State}
 use Rattle.looks.specs.Calls.{Turn}
-
--- what is lent is told by its view
-lent : (a b : Ahead) → viewOf a ≡ viewOf b → a ≡ b
-lent a b e = ap (λ (st : State). record { nums = st .nums; held = st .held; counts = st .counts; waiting = st .waiting }) e
 
 -- what a call with this turn promises of its result, its record and the state; and of its store, if it has one
 abbrev pub Shown : Turn → ℕ → List ℕ → Ahead → Type 0

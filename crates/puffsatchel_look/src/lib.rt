@@ -1,383 +1,225 @@
 // The lookahead's calls for C and Rust (include/puffsatchel.h): the result is a refusal's number, 0 where there is none, and the rest of the
 // answer goes to five lent words. The state is lent and changed where it stands; whatever bytes it holds, each call answers.
+use ahead::Ahead;
 use look_answers::tell_looked;
-use lookahead::Ahead;
+use lookahead::advance;
+use lookahead::array;
+use lookahead::bump;
+use lookahead::bump_if;
+use lookahead::bump_while;
+use lookahead::fill;
+use lookahead::flush_ws;
+use lookahead::glued;
+use lookahead::is_eof;
+use lookahead::nth;
+use lookahead::nth_token;
+use lookahead::peek;
 ghost use mathlib.Core.Path.{_≡_};
 ghost use lib.Seq.{sets};
+ghost use lib.ListN.{length};
+ghost use Rattle.ahead.specs.View.{viewOf};
 ghost use Rattle.look_answers.specs.Told.{numberTold, wordsTold};
-ghost use Rattle.lookahead.specs.View.{viewOf};
-ghost use Rattle.puffsatchel_look.specs.Calls.{advanceCall, arrayCall, bumpCall, bumpIfCall, bumpWhileCall, fillCall, flushWsCall, gluedCall, isEofCall, nthCall, nthTokenCall, peekCall, testedAdvanceCall, testedArrayCall, testedBumpCall, testedBumpIfCall, testedBumpWhileCall, testedFillCall, testedFlushWsCall, testedGluedCall, testedIsEofCall, testedNthCall, testedNthTokenCall, testedPeekCall};
+ghost use Rattle.looks.specs.Calls.{advanceBy, arrayBy, bumpBy, bumpIfBy, fillBy, flushBy, gluedBy, isEofBy, nthBy, nthTokenBy};
+ghost use Rattle.looks.specs.While.{bumpWhileBy};
 
 #[no_mangle]
 pub extern "C" fn puffsatchel_fill(
     state: &mut Ahead,
+    tested: u32,
     n: usize,
     list: &[u32],
     answer: &mut [usize; 5],
 ) -> u32
-    ensures { λ r. ⌜ (r ≡ numberTold (fillCall (viewOf (now (state .entry))) n (now (list .entry)) .answer))
-        × (now (answer .exit) ≡ wordsTold (fillCall (viewOf (now (state .entry))) n (now (list .entry)) .answer))
-        × (viewOf (now (state .exit)) ≡ fillCall (viewOf (now (state .entry))) n (now (list .entry)) .state) ⌝ }
+    ensures { λ r. ⌜ (r ≡ numberTold (fillBy tested (now (list .entry)) n (viewOf (now (state .entry))) .answer))
+        × (now (answer .exit) ≡ wordsTold (fillBy tested (now (list .entry)) n (viewOf (now (state .entry))) .answer))
+        × (viewOf (now (state .exit)) ≡ fillBy tested (now (list .entry)) n (viewOf (now (state .entry))) .state) ⌝ }
 {
-    let looked = state.fill(n, list);
+    let looked = fill(state, tested, n, list);
     tell_looked(looked, answer)
 }
 
 #[no_mangle]
-pub extern "C" fn puffsatchel_peek(state: &mut Ahead, list: &[u32], answer: &mut [usize; 5]) -> u32
-    ensures { λ r. ⌜ (r ≡ numberTold (peekCall (viewOf (now (state .entry))) (now (list .entry)) .answer))
-        × (now (answer .exit) ≡ wordsTold (peekCall (viewOf (now (state .entry))) (now (list .entry)) .answer))
-        × (viewOf (now (state .exit)) ≡ peekCall (viewOf (now (state .entry))) (now (list .entry)) .state) ⌝ }
+pub extern "C" fn puffsatchel_peek(
+    state: &mut Ahead,
+    tested: u32,
+    list: &[u32],
+    answer: &mut [usize; 5],
+) -> u32
+    ensures { λ r. ⌜ (r ≡ numberTold (nthBy tested (now (list .entry)) 0 (viewOf (now (state .entry))) .answer))
+        × (now (answer .exit) ≡ wordsTold (nthBy tested (now (list .entry)) 0 (viewOf (now (state .entry))) .answer))
+        × (viewOf (now (state .exit)) ≡ nthBy tested (now (list .entry)) 0 (viewOf (now (state .entry))) .state) ⌝ }
 {
-    let looked = state.peek(list);
+    let looked = peek(state, tested, list);
     tell_looked(looked, answer)
 }
 
 #[no_mangle]
 pub extern "C" fn puffsatchel_nth(
     state: &mut Ahead,
+    tested: u32,
     n: usize,
     list: &[u32],
     answer: &mut [usize; 5],
 ) -> u32
-    ensures { λ r. ⌜ (r ≡ numberTold (nthCall (viewOf (now (state .entry))) n (now (list .entry)) .answer))
-        × (now (answer .exit) ≡ wordsTold (nthCall (viewOf (now (state .entry))) n (now (list .entry)) .answer))
-        × (viewOf (now (state .exit)) ≡ nthCall (viewOf (now (state .entry))) n (now (list .entry)) .state) ⌝ }
+    ensures { λ r. ⌜ (r ≡ numberTold (nthBy tested (now (list .entry)) n (viewOf (now (state .entry))) .answer))
+        × (now (answer .exit) ≡ wordsTold (nthBy tested (now (list .entry)) n (viewOf (now (state .entry))) .answer))
+        × (viewOf (now (state .exit)) ≡ nthBy tested (now (list .entry)) n (viewOf (now (state .entry))) .state) ⌝ }
 {
-    let looked = state.nth(n, list);
+    let looked = nth(state, tested, n, list);
     tell_looked(looked, answer)
 }
 
 #[no_mangle]
 pub extern "C" fn puffsatchel_nth_token(
     state: &mut Ahead,
+    tested: u32,
     n: usize,
     list: &[u32],
     answer: &mut [usize; 5],
 ) -> u32
-    ensures { λ r. ⌜ (r ≡ numberTold (nthTokenCall (viewOf (now (state .entry))) n (now (list .entry)) .answer))
-        × (now (answer .exit) ≡ wordsTold (nthTokenCall (viewOf (now (state .entry))) n (now (list .entry)) .answer))
-        × (viewOf (now (state .exit)) ≡ nthTokenCall (viewOf (now (state .entry))) n (now (list .entry)) .state) ⌝ }
+    ensures { λ r. ⌜ (r ≡ numberTold (nthTokenBy tested (now (list .entry)) n (viewOf (now (state .entry))) .answer))
+        × (now (answer .exit) ≡ wordsTold (nthTokenBy tested (now (list .entry)) n (viewOf (now (state .entry))) .answer))
+        × (viewOf (now (state .exit)) ≡ nthTokenBy tested (now (list .entry)) n (viewOf (now (state .entry))) .state) ⌝ }
 {
-    let looked = state.nth_token(n, list);
+    let looked = nth_token(state, tested, n, list);
     tell_looked(looked, answer)
 }
 
 #[no_mangle]
 pub extern "C" fn puffsatchel_glued(
     state: &mut Ahead,
+    tested: u32,
     n: usize,
     list: &[u32],
     answer: &mut [usize; 5],
 ) -> u32
-    ensures { λ r. ⌜ (r ≡ numberTold (gluedCall (viewOf (now (state .entry))) n (now (list .entry)) .answer))
-        × (now (answer .exit) ≡ wordsTold (gluedCall (viewOf (now (state .entry))) n (now (list .entry)) .answer))
-        × (viewOf (now (state .exit)) ≡ gluedCall (viewOf (now (state .entry))) n (now (list .entry)) .state) ⌝ }
+    ensures { λ r. ⌜ (r ≡ numberTold (gluedBy tested (now (list .entry)) n (viewOf (now (state .entry))) .answer))
+        × (now (answer .exit) ≡ wordsTold (gluedBy tested (now (list .entry)) n (viewOf (now (state .entry))) .answer))
+        × (viewOf (now (state .exit)) ≡ gluedBy tested (now (list .entry)) n (viewOf (now (state .entry))) .state) ⌝ }
 {
-    let looked = state.glued(n, list);
+    let looked = glued(state, tested, n, list);
     tell_looked(looked, answer)
 }
 
 #[no_mangle]
 pub extern "C" fn puffsatchel_is_eof(
     state: &mut Ahead,
+    tested: u32,
     list: &[u32],
     answer: &mut [usize; 5],
 ) -> u32
-    ensures { λ r. ⌜ (r ≡ numberTold (isEofCall (viewOf (now (state .entry))) (now (list .entry)) .answer))
-        × (now (answer .exit) ≡ wordsTold (isEofCall (viewOf (now (state .entry))) (now (list .entry)) .answer))
-        × (viewOf (now (state .exit)) ≡ isEofCall (viewOf (now (state .entry))) (now (list .entry)) .state) ⌝ }
+    ensures { λ r. ⌜ (r ≡ numberTold (isEofBy tested (now (list .entry)) (viewOf (now (state .entry))) .answer))
+        × (now (answer .exit) ≡ wordsTold (isEofBy tested (now (list .entry)) (viewOf (now (state .entry))) .answer))
+        × (viewOf (now (state .exit)) ≡ isEofBy tested (now (list .entry)) (viewOf (now (state .entry))) .state) ⌝ }
 {
-    let looked = state.is_eof(list);
+    let looked = is_eof(state, tested, list);
     tell_looked(looked, answer)
 }
 
 #[no_mangle]
 pub extern "C" fn puffsatchel_flush_ws(
     state: &mut Ahead,
+    tested: u32,
     list: &[u32],
     out: &mut [u32],
     answer: &mut [usize; 5],
 ) -> u32
-    ensures { λ r. ⌜ (r ≡ numberTold (flushWsCall (viewOf (now (state .entry))) (now (list .entry)) (now (out .entry)) .answer))
-        × (now (answer .exit) ≡ wordsTold (flushWsCall (viewOf (now (state .entry))) (now (list .entry)) (now (out .entry)) .answer))
-        × (viewOf (now (state .exit)) ≡ flushWsCall (viewOf (now (state .entry))) (now (list .entry)) (now (out .entry)) .state)
-        × (now (out .exit) ≡ sets (now (out .entry)) 0 (flushWsCall (viewOf (now (state .entry))) (now (list .entry)) (now (out .entry)) .written)) ⌝ }
+    ensures { λ r. ⌜ (r ≡ numberTold (flushBy tested (now (list .entry)) (length (now (out .entry))) (viewOf (now (state .entry))) .answer))
+        × (now (answer .exit) ≡ wordsTold (flushBy tested (now (list .entry)) (length (now (out .entry))) (viewOf (now (state .entry))) .answer))
+        × (viewOf (now (state .exit)) ≡ flushBy tested (now (list .entry)) (length (now (out .entry))) (viewOf (now (state .entry))) .state)
+        × (now (out .exit) ≡ sets (now (out .entry)) 0 (flushBy tested (now (list .entry)) (length (now (out .entry))) (viewOf (now (state .entry))) .written)) ⌝ }
 {
-    let looked = state.flush_ws(list, out);
+    let looked = flush_ws(state, tested, list, out);
     tell_looked(looked, answer)
 }
 
 #[no_mangle]
 pub extern "C" fn puffsatchel_bump(
     state: &mut Ahead,
+    tested: u32,
     list: &[u32],
     out: &mut [u32],
     answer: &mut [usize; 5],
 ) -> u32
-    ensures { λ r. ⌜ (r ≡ numberTold (bumpCall (viewOf (now (state .entry))) (now (list .entry)) (now (out .entry)) .answer))
-        × (now (answer .exit) ≡ wordsTold (bumpCall (viewOf (now (state .entry))) (now (list .entry)) (now (out .entry)) .answer))
-        × (viewOf (now (state .exit)) ≡ bumpCall (viewOf (now (state .entry))) (now (list .entry)) (now (out .entry)) .state)
-        × (now (out .exit) ≡ sets (now (out .entry)) 0 (bumpCall (viewOf (now (state .entry))) (now (list .entry)) (now (out .entry)) .written)) ⌝ }
+    ensures { λ r. ⌜ (r ≡ numberTold (bumpBy tested (now (list .entry)) (length (now (out .entry))) (viewOf (now (state .entry))) .answer))
+        × (now (answer .exit) ≡ wordsTold (bumpBy tested (now (list .entry)) (length (now (out .entry))) (viewOf (now (state .entry))) .answer))
+        × (viewOf (now (state .exit)) ≡ bumpBy tested (now (list .entry)) (length (now (out .entry))) (viewOf (now (state .entry))) .state)
+        × (now (out .exit) ≡ sets (now (out .entry)) 0 (bumpBy tested (now (list .entry)) (length (now (out .entry))) (viewOf (now (state .entry))) .written)) ⌝ }
 {
-    let looked = state.bump(list, out);
+    let looked = bump(state, tested, list, out);
     tell_looked(looked, answer)
 }
 
 #[no_mangle]
 pub extern "C" fn puffsatchel_bump_if(
     state: &mut Ahead,
+    tested: u32,
     kind: u32,
     list: &[u32],
     out: &mut [u32],
     answer: &mut [usize; 5],
 ) -> u32
-    ensures { λ r. ⌜ (r ≡ numberTold (bumpIfCall (viewOf (now (state .entry))) kind (now (list .entry)) (now (out .entry)) .answer))
-        × (now (answer .exit) ≡ wordsTold (bumpIfCall (viewOf (now (state .entry))) kind (now (list .entry)) (now (out .entry)) .answer))
-        × (viewOf (now (state .exit)) ≡ bumpIfCall (viewOf (now (state .entry))) kind (now (list .entry)) (now (out .entry)) .state)
-        × (now (out .exit) ≡ sets (now (out .entry)) 0 (bumpIfCall (viewOf (now (state .entry))) kind (now (list .entry)) (now (out .entry)) .written)) ⌝ }
+    ensures { λ r. ⌜ (r ≡ numberTold (bumpIfBy tested (now (list .entry)) kind (length (now (out .entry))) (viewOf (now (state .entry))) .answer))
+        × (now (answer .exit) ≡ wordsTold (bumpIfBy tested (now (list .entry)) kind (length (now (out .entry))) (viewOf (now (state .entry))) .answer))
+        × (viewOf (now (state .exit)) ≡ bumpIfBy tested (now (list .entry)) kind (length (now (out .entry))) (viewOf (now (state .entry))) .state)
+        × (now (out .exit) ≡ sets (now (out .entry)) 0 (bumpIfBy tested (now (list .entry)) kind (length (now (out .entry))) (viewOf (now (state .entry))) .written)) ⌝ }
 {
-    let looked = state.bump_if(kind, list, out);
+    let looked = bump_if(state, tested, kind, list, out);
     tell_looked(looked, answer)
 }
 
 #[no_mangle]
 pub extern "C" fn puffsatchel_bump_while(
     state: &mut Ahead,
+    tested: u32,
     kind: u32,
     list: &[u32],
     out: &mut [u32],
     answer: &mut [usize; 5],
 ) -> u32
-    ensures { λ r. ⌜ (r ≡ numberTold (bumpWhileCall (viewOf (now (state .entry))) kind (now (list .entry)) (now (out .entry)) .answer))
-        × (now (answer .exit) ≡ wordsTold (bumpWhileCall (viewOf (now (state .entry))) kind (now (list .entry)) (now (out .entry)) .answer))
-        × (viewOf (now (state .exit)) ≡ bumpWhileCall (viewOf (now (state .entry))) kind (now (list .entry)) (now (out .entry)) .state)
-        × (now (out .exit) ≡ sets (now (out .entry)) 0 (bumpWhileCall (viewOf (now (state .entry))) kind (now (list .entry)) (now (out .entry)) .written)) ⌝ }
+    ensures { λ r. ⌜ (r ≡ numberTold (bumpWhileBy tested (now (list .entry)) kind (length (now (out .entry))) (viewOf (now (state .entry))) .answer))
+        × (now (answer .exit) ≡ wordsTold (bumpWhileBy tested (now (list .entry)) kind (length (now (out .entry))) (viewOf (now (state .entry))) .answer))
+        × (viewOf (now (state .exit)) ≡ bumpWhileBy tested (now (list .entry)) kind (length (now (out .entry))) (viewOf (now (state .entry))) .state)
+        × (now (out .exit) ≡ sets (now (out .entry)) 0 (bumpWhileBy tested (now (list .entry)) kind (length (now (out .entry))) (viewOf (now (state .entry))) .written)) ⌝ }
 {
-    let looked = state.bump_while(kind, list, out);
+    let looked = bump_while(state, tested, kind, list, out);
     tell_looked(looked, answer)
 }
 
 #[no_mangle]
 pub extern "C" fn puffsatchel_advance(
     state: &mut Ahead,
+    tested: u32,
     n: usize,
     list: &[u32],
     out: &mut [u32],
     answer: &mut [usize; 5],
 ) -> u32
-    ensures { λ r. ⌜ (r ≡ numberTold (advanceCall (viewOf (now (state .entry))) n (now (list .entry)) (now (out .entry)) .answer))
-        × (now (answer .exit) ≡ wordsTold (advanceCall (viewOf (now (state .entry))) n (now (list .entry)) (now (out .entry)) .answer))
-        × (viewOf (now (state .exit)) ≡ advanceCall (viewOf (now (state .entry))) n (now (list .entry)) (now (out .entry)) .state)
-        × (now (out .exit) ≡ sets (now (out .entry)) 0 (advanceCall (viewOf (now (state .entry))) n (now (list .entry)) (now (out .entry)) .written)) ⌝ }
+    ensures { λ r. ⌜ (r ≡ numberTold (advanceBy tested (now (list .entry)) n (length (now (out .entry))) (viewOf (now (state .entry))) .answer))
+        × (now (answer .exit) ≡ wordsTold (advanceBy tested (now (list .entry)) n (length (now (out .entry))) (viewOf (now (state .entry))) .answer))
+        × (viewOf (now (state .exit)) ≡ advanceBy tested (now (list .entry)) n (length (now (out .entry))) (viewOf (now (state .entry))) .state)
+        × (now (out .exit) ≡ sets (now (out .entry)) 0 (advanceBy tested (now (list .entry)) n (length (now (out .entry))) (viewOf (now (state .entry))) .written)) ⌝ }
 {
-    let looked = state.advance(n, list, out);
+    let looked = advance(state, tested, n, list, out);
     tell_looked(looked, answer)
 }
 
 #[no_mangle]
 pub extern "C" fn puffsatchel_array(
     state: &mut Ahead,
+    tested: u32,
     n: usize,
     list: &[u32],
     out: &mut [u32],
     answer: &mut [usize; 5],
 ) -> u32
-    ensures { λ r. ⌜ (r ≡ numberTold (arrayCall (viewOf (now (state .entry))) n (now (list .entry)) (now (out .entry)) .answer))
-        × (now (answer .exit) ≡ wordsTold (arrayCall (viewOf (now (state .entry))) n (now (list .entry)) (now (out .entry)) .answer))
-        × (viewOf (now (state .exit)) ≡ arrayCall (viewOf (now (state .entry))) n (now (list .entry)) (now (out .entry)) .state)
-        × (now (out .exit) ≡ sets (now (out .entry)) 0 (arrayCall (viewOf (now (state .entry))) n (now (list .entry)) (now (out .entry)) .written)) ⌝ }
+    ensures { λ r. ⌜ (r ≡ numberTold (arrayBy tested (now (list .entry)) n (length (now (out .entry))) (viewOf (now (state .entry))) .answer))
+        × (now (answer .exit) ≡ wordsTold (arrayBy tested (now (list .entry)) n (length (now (out .entry))) (viewOf (now (state .entry))) .answer))
+        × (viewOf (now (state .exit)) ≡ arrayBy tested (now (list .entry)) n (length (now (out .entry))) (viewOf (now (state .entry))) .state)
+        × (now (out .exit) ≡ sets (now (out .entry)) 0 (arrayBy tested (now (list .entry)) n (length (now (out .entry))) (viewOf (now (state .entry))) .written)) ⌝ }
 {
-    let looked = state.array(n, list, out);
+    let looked = array(state, tested, n, list, out);
     tell_looked(looked, answer)
 }
 
 // The same for a list that was tested once: one that is not of whole records or is faulty is not refused, but read as it stands.
-
-#[no_mangle]
-pub extern "C" fn puffsatchel_tested_fill(
-    state: &mut Ahead,
-    n: usize,
-    list: &[u32],
-    answer: &mut [usize; 5],
-) -> u32
-    ensures { λ r. ⌜ (r ≡ numberTold (testedFillCall (viewOf (now (state .entry))) n (now (list .entry)) .answer))
-        × (now (answer .exit) ≡ wordsTold (testedFillCall (viewOf (now (state .entry))) n (now (list .entry)) .answer))
-        × (viewOf (now (state .exit)) ≡ testedFillCall (viewOf (now (state .entry))) n (now (list .entry)) .state) ⌝ }
-{
-    let looked = tested::fill(state, n, list);
-    tell_looked(looked, answer)
-}
-
-#[no_mangle]
-pub extern "C" fn puffsatchel_tested_peek(
-    state: &mut Ahead,
-    list: &[u32],
-    answer: &mut [usize; 5],
-) -> u32
-    ensures { λ r. ⌜ (r ≡ numberTold (testedPeekCall (viewOf (now (state .entry))) (now (list .entry)) .answer))
-        × (now (answer .exit) ≡ wordsTold (testedPeekCall (viewOf (now (state .entry))) (now (list .entry)) .answer))
-        × (viewOf (now (state .exit)) ≡ testedPeekCall (viewOf (now (state .entry))) (now (list .entry)) .state) ⌝ }
-{
-    let looked = tested::peek(state, list);
-    tell_looked(looked, answer)
-}
-
-#[no_mangle]
-pub extern "C" fn puffsatchel_tested_nth(
-    state: &mut Ahead,
-    n: usize,
-    list: &[u32],
-    answer: &mut [usize; 5],
-) -> u32
-    ensures { λ r. ⌜ (r ≡ numberTold (testedNthCall (viewOf (now (state .entry))) n (now (list .entry)) .answer))
-        × (now (answer .exit) ≡ wordsTold (testedNthCall (viewOf (now (state .entry))) n (now (list .entry)) .answer))
-        × (viewOf (now (state .exit)) ≡ testedNthCall (viewOf (now (state .entry))) n (now (list .entry)) .state) ⌝ }
-{
-    let looked = tested::nth(state, n, list);
-    tell_looked(looked, answer)
-}
-
-#[no_mangle]
-pub extern "C" fn puffsatchel_tested_nth_token(
-    state: &mut Ahead,
-    n: usize,
-    list: &[u32],
-    answer: &mut [usize; 5],
-) -> u32
-    ensures { λ r. ⌜ (r ≡ numberTold (testedNthTokenCall (viewOf (now (state .entry))) n (now (list .entry)) .answer))
-        × (now (answer .exit) ≡ wordsTold (testedNthTokenCall (viewOf (now (state .entry))) n (now (list .entry)) .answer))
-        × (viewOf (now (state .exit)) ≡ testedNthTokenCall (viewOf (now (state .entry))) n (now (list .entry)) .state) ⌝ }
-{
-    let looked = tested::nth_token(state, n, list);
-    tell_looked(looked, answer)
-}
-
-#[no_mangle]
-pub extern "C" fn puffsatchel_tested_glued(
-    state: &mut Ahead,
-    n: usize,
-    list: &[u32],
-    answer: &mut [usize; 5],
-) -> u32
-    ensures { λ r. ⌜ (r ≡ numberTold (testedGluedCall (viewOf (now (state .entry))) n (now (list .entry)) .answer))
-        × (now (answer .exit) ≡ wordsTold (testedGluedCall (viewOf (now (state .entry))) n (now (list .entry)) .answer))
-        × (viewOf (now (state .exit)) ≡ testedGluedCall (viewOf (now (state .entry))) n (now (list .entry)) .state) ⌝ }
-{
-    let looked = tested::glued(state, n, list);
-    tell_looked(looked, answer)
-}
-
-#[no_mangle]
-pub extern "C" fn puffsatchel_tested_is_eof(
-    state: &mut Ahead,
-    list: &[u32],
-    answer: &mut [usize; 5],
-) -> u32
-    ensures { λ r. ⌜ (r ≡ numberTold (testedIsEofCall (viewOf (now (state .entry))) (now (list .entry)) .answer))
-        × (now (answer .exit) ≡ wordsTold (testedIsEofCall (viewOf (now (state .entry))) (now (list .entry)) .answer))
-        × (viewOf (now (state .exit)) ≡ testedIsEofCall (viewOf (now (state .entry))) (now (list .entry)) .state) ⌝ }
-{
-    let looked = tested::is_eof(state, list);
-    tell_looked(looked, answer)
-}
-
-#[no_mangle]
-pub extern "C" fn puffsatchel_tested_flush_ws(
-    state: &mut Ahead,
-    list: &[u32],
-    out: &mut [u32],
-    answer: &mut [usize; 5],
-) -> u32
-    ensures { λ r. ⌜ (r ≡ numberTold (testedFlushWsCall (viewOf (now (state .entry))) (now (list .entry)) (now (out .entry)) .answer))
-        × (now (answer .exit) ≡ wordsTold (testedFlushWsCall (viewOf (now (state .entry))) (now (list .entry)) (now (out .entry)) .answer))
-        × (viewOf (now (state .exit)) ≡ testedFlushWsCall (viewOf (now (state .entry))) (now (list .entry)) (now (out .entry)) .state)
-        × (now (out .exit) ≡ sets (now (out .entry)) 0 (testedFlushWsCall (viewOf (now (state .entry))) (now (list .entry)) (now (out .entry)) .written)) ⌝ }
-{
-    let looked = tested::flush_ws(state, list, out);
-    tell_looked(looked, answer)
-}
-
-#[no_mangle]
-pub extern "C" fn puffsatchel_tested_bump(
-    state: &mut Ahead,
-    list: &[u32],
-    out: &mut [u32],
-    answer: &mut [usize; 5],
-) -> u32
-    ensures { λ r. ⌜ (r ≡ numberTold (testedBumpCall (viewOf (now (state .entry))) (now (list .entry)) (now (out .entry)) .answer))
-        × (now (answer .exit) ≡ wordsTold (testedBumpCall (viewOf (now (state .entry))) (now (list .entry)) (now (out .entry)) .answer))
-        × (viewOf (now (state .exit)) ≡ testedBumpCall (viewOf (now (state .entry))) (now (list .entry)) (now (out .entry)) .state)
-        × (now (out .exit) ≡ sets (now (out .entry)) 0 (testedBumpCall (viewOf (now (state .entry))) (now (list .entry)) (now (out .entry)) .written)) ⌝ }
-{
-    let looked = tested::bump(state, list, out);
-    tell_looked(looked, answer)
-}
-
-#[no_mangle]
-pub extern "C" fn puffsatchel_tested_bump_if(
-    state: &mut Ahead,
-    kind: u32,
-    list: &[u32],
-    out: &mut [u32],
-    answer: &mut [usize; 5],
-) -> u32
-    ensures { λ r. ⌜ (r ≡ numberTold (testedBumpIfCall (viewOf (now (state .entry))) kind (now (list .entry)) (now (out .entry)) .answer))
-        × (now (answer .exit) ≡ wordsTold (testedBumpIfCall (viewOf (now (state .entry))) kind (now (list .entry)) (now (out .entry)) .answer))
-        × (viewOf (now (state .exit)) ≡ testedBumpIfCall (viewOf (now (state .entry))) kind (now (list .entry)) (now (out .entry)) .state)
-        × (now (out .exit) ≡ sets (now (out .entry)) 0 (testedBumpIfCall (viewOf (now (state .entry))) kind (now (list .entry)) (now (out .entry)) .written)) ⌝ }
-{
-    let looked = tested::bump_if(state, kind, list, out);
-    tell_looked(looked, answer)
-}
-
-#[no_mangle]
-pub extern "C" fn puffsatchel_tested_bump_while(
-    state: &mut Ahead,
-    kind: u32,
-    list: &[u32],
-    out: &mut [u32],
-    answer: &mut [usize; 5],
-) -> u32
-    ensures { λ r. ⌜ (r ≡ numberTold (testedBumpWhileCall (viewOf (now (state .entry))) kind (now (list .entry)) (now (out .entry)) .answer))
-        × (now (answer .exit) ≡ wordsTold (testedBumpWhileCall (viewOf (now (state .entry))) kind (now (list .entry)) (now (out .entry)) .answer))
-        × (viewOf (now (state .exit)) ≡ testedBumpWhileCall (viewOf (now (state .entry))) kind (now (list .entry)) (now (out .entry)) .state)
-        × (now (out .exit) ≡ sets (now (out .entry)) 0 (testedBumpWhileCall (viewOf (now (state .entry))) kind (now (list .entry)) (now (out .entry)) .written)) ⌝ }
-{
-    let looked = tested::bump_while(state, kind, list, out);
-    tell_looked(looked, answer)
-}
-
-#[no_mangle]
-pub extern "C" fn puffsatchel_tested_advance(
-    state: &mut Ahead,
-    n: usize,
-    list: &[u32],
-    out: &mut [u32],
-    answer: &mut [usize; 5],
-) -> u32
-    ensures { λ r. ⌜ (r ≡ numberTold (testedAdvanceCall (viewOf (now (state .entry))) n (now (list .entry)) (now (out .entry)) .answer))
-        × (now (answer .exit) ≡ wordsTold (testedAdvanceCall (viewOf (now (state .entry))) n (now (list .entry)) (now (out .entry)) .answer))
-        × (viewOf (now (state .exit)) ≡ testedAdvanceCall (viewOf (now (state .entry))) n (now (list .entry)) (now (out .entry)) .state)
-        × (now (out .exit) ≡ sets (now (out .entry)) 0 (testedAdvanceCall (viewOf (now (state .entry))) n (now (list .entry)) (now (out .entry)) .written)) ⌝ }
-{
-    let looked = tested::advance(state, n, list, out);
-    tell_looked(looked, answer)
-}
-
-#[no_mangle]
-pub extern "C" fn puffsatchel_tested_array(
-    state: &mut Ahead,
-    n: usize,
-    list: &[u32],
-    out: &mut [u32],
-    answer: &mut [usize; 5],
-) -> u32
-    ensures { λ r. ⌜ (r ≡ numberTold (testedArrayCall (viewOf (now (state .entry))) n (now (list .entry)) (now (out .entry)) .answer))
-        × (now (answer .exit) ≡ wordsTold (testedArrayCall (viewOf (now (state .entry))) n (now (list .entry)) (now (out .entry)) .answer))
-        × (viewOf (now (state .exit)) ≡ testedArrayCall (viewOf (now (state .entry))) n (now (list .entry)) (now (out .entry)) .state)
-        × (now (out .exit) ≡ sets (now (out .entry)) 0 (testedArrayCall (viewOf (now (state .entry))) n (now (list .entry)) (now (out .entry)) .written)) ⌝ }
-{
-    let looked = tested::array(state, n, list, out);
-    tell_looked(looked, answer)
-}

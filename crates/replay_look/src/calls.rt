@@ -41,12 +41,12 @@ fn show(
     list: &[u32],
 ) -> After {
     match code {
-        0 => fill_at(nums, held, counts, waiting, n, list),
-        1 => peek_at(nums, held, counts, waiting, list),
-        2 => nth_at(nums, held, counts, waiting, n, list),
-        3 => nth_token_at(nums, held, counts, waiting, n, list),
-        4 => glued_at(nums, held, counts, waiting, n, list),
-        _ => is_eof_at(nums, held, counts, waiting, list),
+        0 => fill_at(nums, held, counts, waiting, 0, n, list),
+        1 => peek_at(nums, held, counts, waiting, 0, list),
+        2 => nth_at(nums, held, counts, waiting, 0, n, list),
+        3 => nth_token_at(nums, held, counts, waiting, 0, n, list),
+        4 => glued_at(nums, held, counts, waiting, 0, n, list),
+        _ => is_eof_at(nums, held, counts, waiting, 0, list),
     }
 }
 
@@ -61,12 +61,12 @@ fn emit(
     written: &mut [u32],
 ) -> After {
     match code {
-        5 => flush_at(nums, held, counts, waiting, list, written),
-        6 => bump_at(nums, held, counts, waiting, list, written),
-        7 => bump_while_at(nums, held, counts, waiting, n as u32, list, written),
-        8 => bump_if_at(nums, held, counts, waiting, n as u32, list, written),
-        9 => array_at(nums, held, counts, waiting, n as usize, list, written),
-        _ => advance_at(nums, held, counts, waiting, n as usize, list, written),
+        5 => flush_at(nums, held, counts, waiting, 0, list, written),
+        6 => bump_at(nums, held, counts, waiting, 0, list, written),
+        7 => bump_while_at(nums, held, counts, waiting, 0, n as u32, list, written),
+        8 => bump_if_at(nums, held, counts, waiting, 0, n as u32, list, written),
+        9 => array_at(nums, held, counts, waiting, 0, n as usize, list, written),
+        _ => advance_at(nums, held, counts, waiting, 0, n as usize, list, written),
     }
 }
 

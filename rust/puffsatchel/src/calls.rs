@@ -185,6 +185,13 @@ pub(crate) fn load(bytes: &[u8], out: &mut [u32]) -> Answered {
     })
 }
 
+/// Whether list and state were tested before, and a call need not do it.
+#[derive(Clone, Copy)]
+pub(crate) enum Tested {
+    No = 0,
+    Before = 1,
+}
+
 /// The lookahead's calls, each with the number that it takes beside the list, and the store if it has one.
 macro_rules! lookahead {
     ($($name:ident as $call:ident($($number:ident: $kind:ty)?) $($out:ident)?;)*) => {
@@ -192,6 +199,7 @@ macro_rules! lookahead {
             $(
                 fn $call(
                     state: *mut Ahead,
+                    tested: u32,
                     $($number: $kind,)?
                     list: *const u32,
                     list_len: usize,
@@ -204,6 +212,7 @@ macro_rules! lookahead {
         $(
             pub(crate) fn $name(
                 state: &mut Ahead,
+                tested: Tested,
                 $($number: $kind,)?
                 list: &[u32],
                 $($out: &mut [u32],)?
@@ -213,6 +222,7 @@ macro_rules! lookahead {
                     unsafe {
                         $call(
                             state,
+                            tested as u32,
                             $($number,)?
                             list.as_ptr(),
                             list.len(),
@@ -227,17 +237,16 @@ macro_rules! lookahead {
 }
 
 lookahead! {
-    advance_over as puffsatchel_advance(n: usize) out;
-    fill as puffsatchel_tested_fill(n: usize);
-    nth as puffsatchel_tested_nth(n: usize);
-    nth_token as puffsatchel_tested_nth_token(n: usize);
-    glued as puffsatchel_tested_glued(n: usize);
-    peek as puffsatchel_tested_peek();
-    is_eof as puffsatchel_tested_is_eof();
-    flush_ws as puffsatchel_tested_flush_ws() out;
-    bump as puffsatchel_tested_bump() out;
-    bump_if as puffsatchel_tested_bump_if(kind: u32) out;
-    bump_while as puffsatchel_tested_bump_while(kind: u32) out;
-    advance as puffsatchel_tested_advance(n: usize) out;
-    array as puffsatchel_tested_array(n: usize) out;
+    fill as puffsatchel_fill(n: usize);
+    nth as puffsatchel_nth(n: usize);
+    nth_token as puffsatchel_nth_token(n: usize);
+    glued as puffsatchel_glued(n: usize);
+    peek as puffsatchel_peek();
+    is_eof as puffsatchel_is_eof();
+    flush_ws as puffsatchel_flush_ws() out;
+    bump as puffsatchel_bump() out;
+    bump_if as puffsatchel_bump_if(kind: u32) out;
+    bump_while as puffsatchel_bump_while(kind: u32) out;
+    advance as puffsatchel_advance(n: usize) out;
+    array as puffsatchel_array(n: usize) out;
 }

@@ -1,4 +1,4 @@
--- A call for C, `f(state, list, answer) { let looked = g(state, list); tell_looked(looked, answer) }`: it meets its contract at F if g, whose key is k, does, and if tell_looked, whose key is k′, tells an answer's number and words.
+-- A call for C, `f(state, tested, list, answer) { let looked = g(state, tested, list); tell_looked(looked, answer) }`: it meets its contract at F if g, whose key is k, does, and if tell_looked, whose key is k′, tells an answer's number and words.
 -- The lent state is handed on as it is: no borrow is opened. Written by tools/pass.py.
 use mathlib.Core.Path.{_≡_, refl, ap, _∙_}
 use Prim.Native.Nat.{ℕ}
@@ -38,51 +38,52 @@ use denote.Signature.{plain, mutRef, shrSlice, mutSlice}
 use Rattle.looks.specs.Buffer.{State}
 use Rattle.looks.specs.Calls.{Turn}
 use Rattle.looks.specs.declared.look.Looked.{Looked}
-use Rattle.lookahead.specs.View.{viewOf}
-use Rattle.lookahead.specs.declared.ahead.Ahead.{Ahead}
+use Rattle.ahead.specs.View.{viewOf}
+use Rattle.ahead.specs.declared.Ahead.{Ahead}
 use Rattle.look_answers.specs.Told.{numberTold, wordsTold}
 use Rattle.looks.proofs.look.Looked as N
 use Rattle.looks.proofs.look.Looked.Laws as N′
-use Rattle.lookahead.proofs.ahead.Ahead as T
-use Rattle.lookahead.proofs.ahead.Ahead.Laws as T′
+use Rattle.ahead.proofs.Ahead as T
+use Rattle.ahead.proofs.Ahead.Laws as T′
 
-module _ (k k′ : Name) (F : State → List ℕ → Turn) {M : Type 1} (𝓤 : URA M) (H : Heap 𝓤) (A : Atoms 𝓤) (W : Given 𝓤 H A) where
+module _ (k k′ : Name) (F : State → ℕ → List ℕ → Turn) {M : Type 1} (𝓤 : URA M) (H : Heap 𝓤) (A : Atoms 𝓤) (W : Given 𝓤 H A) where
   -- f's MIR
   abbrev code : Fn
   code = record {
     lifetimes = 3;
     outlives = [];
-    params = 3;
+    params = 4;
     locals =
         local (tyInt w32) valueLocal ∷
         local (tyRef (named 0) mut (pointee (T.the-row .written))) valueLocal ∷
+        local (tyInt w32) valueLocal ∷
         local (sliceTy (tyRef (named 1) imm (tyInt w32))) valueLocal ∷
         local (tyRef (named 2) mut (tyArray (tyInt w64) 5)) valueLocal ∷
         local N′.mir valueLocal ∷
         local (tyRef erased mut (pointee (T.the-row .written))) valueLocal ∷
         local (tyRef erased mut (tyArray (tyInt w64) 5)) valueLocal ∷ [];
     body =
-        seq (assign (place 5 []) (addrOf (place 1 (deref T′.mir ∷ []))))
-        (seq (call k (copy (place 5 []) ∷ copy (place 2 []) ∷ []) (place 4 []))
-        (seq (assign (place 6 []) (addrOf (place 3 (deref (tyArray (tyInt w64) 5) ∷ []))))
-        (seq (call k′ (copy (place 4 []) ∷ copy (place 6 []) ∷ []) (place 0 [])) return)));
+        seq (assign (place 6 []) (addrOf (place 1 (deref T′.mir ∷ []))))
+        (seq (call k (copy (place 6 []) ∷ copy (place 2 []) ∷ copy (place 3 []) ∷ []) (place 5 []))
+        (seq (assign (place 7 []) (addrOf (place 4 (deref (tyArray (tyInt w64) 5) ∷ []))))
+        (seq (call k′ (copy (place 5 []) ∷ copy (place 7 []) ∷ []) (place 0 [])) return)));
   }
 
   -- what g says of the state on exit, its answer; and f of its result, the record, the state
-  abbrev Says : State → List ℕ → State → Looked → Type 0
-  Says s l t u = (t ≡ F s l .state) × (u ≡ F s l .answer)
+  abbrev Says : State → ℕ → List ℕ → State → Looked → Type 0
+  Says s x l t u = (t ≡ F s x l .state) × (u ≡ F s x l .answer)
 
-  abbrev Tells : State → List ℕ → ℕ → List ℕ → State → Type 0
-  Tells s l r v t = (r ≡ numberTold (F s l .answer)) × (v ≡ wordsTold (F s l .answer)) × (t ≡ F s l .state)
+  abbrev Tells : State → ℕ → List ℕ → ℕ → List ℕ → State → Type 0
+  Tells s x l r v t = (r ≡ numberTold (F s x l .answer)) × (v ≡ wordsTold (F s x l .answer)) × (t ≡ F s x l .state)
 
-  follows : (s : State) (l : List ℕ) (t : State) (u : Looked) (r : ℕ) (v : List ℕ) → Says s l t u → r ≡ numberTold u → v ≡ wordsTold u → Tells s l r v t
-  follows s l t u r v e f g = (f ∙ ap numberTold (e .1), g ∙ ap wordsTold (e .1), e .0)
+  follows : (s : State) (x : ℕ) (l : List ℕ) (t : State) (u : Looked) (r : ℕ) (v : List ℕ) → Says s x l t u → r ≡ numberTold u → v ≡ wordsTold u → Tells s x l r v t
+  follows s x l t u r v e f g = (f ∙ ap numberTold (e .1), g ∙ ap wordsTold (e .1), e .0)
 
   -- g's, tell_looked's and f's contracts
   abbrev by-ended : Ended
   by-ended = record {
-    signature = record { lifetimes = 2; outlives = []; params = mutRef 0 tt (λ _. T.the-row) ∷ shrSlice 1 tt (λ _. u32) ∷ []; result = plain (λ _. N.the-row) };
-    kept = (yes, (yes, tt));
+    signature = record { lifetimes = 2; outlives = []; params = mutRef 0 tt (λ _. T.the-row) ∷ plain (λ _. UInt w32) ∷ shrSlice 1 tt (λ _. u32) ∷ []; result = plain (λ _. N.the-row) };
+    kept = (yes, (yes, (yes, tt)));
   }
 
   abbrev told-ended : Ended
@@ -93,21 +94,21 @@ module _ (k k′ : Name) (F : State → List ℕ → Turn) {M : Type 1} (𝓤 : 
 
   abbrev own-ended : Ended
   own-ended = record {
-    signature = record { lifetimes = 3; outlives = []; params = mutRef 0 tt (λ _. T.the-row) ∷ shrSlice 1 tt (λ _. u32) ∷ mutRef 2 tt (λ _. Array usize 5) ∷ []; result = plain (λ _. u32) };
-    kept = (yes, (yes, (yes, tt)));
+    signature = record { lifetimes = 3; outlives = []; params = mutRef 0 tt (λ _. T.the-row) ∷ plain (λ _. UInt w32) ∷ shrSlice 1 tt (λ _. u32) ∷ mutRef 2 tt (λ _. Array usize 5) ∷ []; result = plain (λ _. u32) };
+    kept = (yes, (yes, (yes, (yes, tt))));
   }
 
   abbrev stayed : Stays (own-ended .signature .params) (own-ended .kept)
-  stayed = (gave-ref (0 ∷ []) tt (plain (λ _. T.the-row)), (stay-none-slice (1 ∷ []) tt (plain (λ _. u32)) yes, (gave-ref (2 ∷ []) tt (plain (λ _. Array usize 5)), tt)))
+  stayed = (gave-ref (0 ∷ []) tt (plain (λ _. T.the-row)), (stay-none (λ _. UInt w32) yes, (stay-none-slice (1 ∷ []) tt (plain (λ _. u32)) yes, (gave-ref (2 ∷ []) tt (plain (λ _. Array usize 5)), tt))))
 
   abbrev By : Clauses 𝓤 by-ended
-  By κs a = record { ghost = Unit {0}; requires = λ _. emp 𝓤; ensures = λ _ r e. fact 𝓤 (Says (viewOf (now (a .0))) (now (a .1 .0)) (viewOf (now (e .0))) r) }
+  By κs a = record { ghost = Unit {0}; requires = λ _. emp 𝓤; ensures = λ _ r e. fact 𝓤 (Says (viewOf (now (a .0))) (a .1 .0) (now (a .1 .1 .0)) (viewOf (now (e .0))) r) }
 
   abbrev Told : Clauses 𝓤 told-ended
   Told κs a = record { ghost = Unit {0}; requires = λ _. emp 𝓤; ensures = λ _ r e. fact 𝓤 ((r ≡ numberTold (a .0)) × (now (e .1 .0) ≡ wordsTold (a .0))) }
 
   abbrev Own : Clauses 𝓤 own-ended
-  Own κs a = record { ghost = Unit {0}; requires = λ _. emp 𝓤; ensures = λ _ r e. fact 𝓤 (Tells (viewOf (now (a .0))) (now (a .1 .0)) r (now (e .1 .1 .0)) (viewOf (now (e .0)))) }
+  Own κs a = record { ghost = Unit {0}; requires = λ _. emp 𝓤; ensures = λ _ r e. fact 𝓤 (Tells (viewOf (now (a .0))) (a .1 .0) (now (a .1 .1 .0)) r (now (e .1 .1 .1 .0)) (viewOf (now (e .0)))) }
 
   abbrev G : Contract 𝓤
   G = tripleOf 𝓤 H A (by-ended .signature) (closing 𝓤 H A by-ended By)
@@ -116,24 +117,24 @@ module _ (k k′ : Name) (F : State → List ℕ → Turn) {M : Type 1} (𝓤 : 
   G′ = tripleOf 𝓤 H A (told-ended .signature) (closing 𝓤 H A told-ended Told)
 
   -- κₐ is the record's
-  module _ (κ₀ κ₁ κₐ : Lft) (q₀ q₁ qₐ : Share) (b o : ℕ) (γ : GName) (h : Ahead) (xs : RefT (List ℕ)) (c p : ℕ) (δ : GName) (old : List ℕ) where
+  module _ (κ₀ κ₁ κₐ : Lft) (q₀ q₁ qₐ : Share) (b o : ℕ) (γ : GName) (h : Ahead) (t₁ : ℕ) (xs : RefT (List ℕ)) (c p : ℕ) (δ : GName) (old : List ℕ) (gₜ : Is (UInt w32) t₁ (vint w32 t₁ ∷ [])) where
     abbrev told : RefT (List ℕ)
     told = record { ptr = (c, p); name = δ; now = old }
 
     abbrev vx : Val
     vx = sliceVal (xs .ptr) (length (xs .now))
 
-    abbrev given : (RefT Ahead × (RefT (List ℕ) × Unit {0}))
-    given = (record { ptr = (b, o); name = γ; now = h }, (xs, tt))
+    abbrev given : (RefT Ahead × (ℕ × (RefT (List ℕ) × Unit {0})))
+    given = (record { ptr = (b, o); name = γ; now = h }, (t₁, (xs, tt)))
 
-    abbrev vgiven : (List Val × (List Val × Unit {0}))
-    vgiven = (vptr b o ∷ [], (vx ∷ [], tt))
+    abbrev vgiven : (List Val × (List Val × (List Val × Unit {0})))
+    vgiven = (vptr b o ∷ [], (vint w32 t₁ ∷ [], (vx ∷ [], tt)))
 
-    abbrev a : (RefT Ahead × (RefT (List ℕ) × (RefT (List ℕ) × Unit {0})))
-    a = (record { ptr = (b, o); name = γ; now = h }, (xs, (told, tt)))
+    abbrev a : (RefT Ahead × (ℕ × (RefT (List ℕ) × (RefT (List ℕ) × Unit {0}))))
+    a = (record { ptr = (b, o); name = γ; now = h }, (t₁, (xs, (told, tt))))
 
-    abbrev at : (List Val × (List Val × (List Val × Unit {0})))
-    at = (vptr b o ∷ [], (vx ∷ [], (vptr c p ∷ [], tt)))
+    abbrev at : (List Val × (List Val × (List Val × (List Val × Unit {0}))))
+    at = (vptr b o ∷ [], (vint w32 t₁ ∷ [], (vx ∷ [], (vptr c p ∷ [], tt))))
 
     abbrev Post : Val → SProp 𝓤
     Post = walkOf 𝓤 H A own-ended stayed Own .post (((κ₀, (κ₁, (κₐ, tt))), (q₀, (q₁, (qₐ, tt))), tt, a, at), tt)
@@ -143,7 +144,7 @@ module _ (k k′ : Name) (F : State → List ℕ → Turn) {M : Type 1} (𝓤 : 
     to-g = (((κ₀, (κ₁, tt)), (q₀, (q₁, tt)), tt, given, vgiven), tt)
 
     asked : ent 𝓤 (onEntry 𝓤 H A (by-ended .signature) (κ₀, (κ₁, tt)) (q₀, (q₁, tt)) given vgiven) (G .pre to-g)
-    asked = qed W ((‵ (flft κ₀ q₀) ⊛ ‵ (flft κ₁ q₁) ⊛ ‵ ftrue) ∷ ‵ (owns (MutRef (named 0) κ₀ T.the-row ∷ ShrSlice (named 1) κ₁ u32 ∷ []) given vgiven) ∷ []) ∵ join ! $ frame ! $ done !
+    asked = qed W ((‵ (flft κ₀ q₀) ⊛ ‵ (flft κ₁ q₁) ⊛ ‵ ftrue) ∷ ‵ (owns (MutRef (named 0) κ₀ T.the-row ∷ UInt w32 ∷ ShrSlice (named 1) κ₁ u32 ∷ []) given vgiven) ∷ []) ∵ join ! $ frame ! $ done !
 
     module _ (u : Looked) (w : Val) where
       abbrev to-tell : G′ .Ghost
@@ -155,29 +156,29 @@ module _ (k k′ : Name) (F : State → List ℕ → Turn) {M : Type 1} (𝓤 : 
     abbrev Left : Ahead → List ℕ → ℕ → Val → List (Item 𝓤)
     Left s ts r v = (‵ (flft κ₀ q₀) ⊛ ‵ (flft κ₁ q₁) ⊛ ‵ (flft κₐ qₐ) ⊛ ‵ ftrue) ∷ ‵ (fres γ (T.the-row .coded .code s)) ∷ ‵ (ShrSlice (named 1) κ₁ u32 .own xs (vx ∷ [])) ∷ ‵ (fres δ ((Array usize 5) .coded .code ts)) ∷ ‵ (u32 .own r (v ∷ [])) ∷ []
 
-    exits : (s : Ahead) (ts : List ℕ) (r : ℕ) (v : Val) → Tells (viewOf h) (xs .now) r ts (viewOf s) → ent 𝓤 (⋆ 𝓤 H A (Left s ts r v)) (Post v)
+    exits : (s : Ahead) (ts : List ℕ) (r : ℕ) (v : Val) → Tells (viewOf h) t₁ (xs .now) r ts (viewOf s) → ent 𝓤 (⋆ 𝓤 H A (Left s ts r v)) (Post v)
     exits s ts r v e =
         qed W (Left s ts r v) ∵
-        suffices ! _ (ends-at 𝓤 H A own-ended stayed Own W (((κ₀, (κ₁, (κₐ, tt))), (q₀, (q₁, (qₐ, tt))), tt, a, at), tt) v r (s, (tt, (ts, tt))) (tt, (tt, (tt, tt)))) $ says ! e $ frame ! $
-        nothing ! $ move ! (3 ∷ 0 ∷ []) $ fjoin ! $ move ! (2 ∷ 0 ∷ []) $ fjoin ! $ move ! (1 ∷ 0 ∷ []) $ fjoin ! $ done !
+        suffices ! _ (ends-at 𝓤 H A own-ended stayed Own W (((κ₀, (κ₁, (κₐ, tt))), (q₀, (q₁, (qₐ, tt))), tt, a, at), tt) v r (s, (tt, (tt, (ts, tt)))) (tt, (tt, (tt, (tt, tt))))) $ says ! e $ frame ! $
+        nothing ! $ move ! (3 ∷ 0 ∷ []) $ fjoin ! $ move ! (2 ∷ 0 ∷ []) $ fjoin ! $ owned ! (UInt w32) (Is (UInt w32)) (uint-makes 𝓤 H A W w32) t₁ _ gₜ $ fjoin ! $ move ! (1 ∷ 0 ∷ []) $ fjoin ! $ done !
 
     module _ (C : Calls 𝓤 H) (Λ : Loops 𝓤 H) (fm : FmC 𝓤 H (W .laws) C) (known : Triple 𝓤 (C k) G) (known′ : Triple 𝓤 (C k′) G′) where
-      walk : Room u32 (length (xs .now)) → ent 𝓤 (onEntry 𝓤 H A (own-ended .signature) (κ₀, (κ₁, (κₐ, tt))) (q₀, (q₁, (qₐ, tt))) a at) (WpFn 𝓤 H C Λ code (vptr b o ∷ vx ∷ vptr c p ∷ []) Post)
+      walk : Room u32 (length (xs .now)) → ent 𝓤 (onEntry 𝓤 H A (own-ended .signature) (κ₀, (κ₁, (κₐ, tt))) (q₀, (q₁, (qₐ, tt))) a at) (WpFn 𝓤 H C Λ code (vptr b o ∷ vint w32 t₁ ∷ vx ∷ vptr c p ∷ []) Post)
       walk rx =
-          qed W ((‵ (flft κ₀ q₀) ⊛ ‵ (flft κ₁ q₁) ⊛ ‵ (flft κₐ qₐ) ⊛ ‵ ftrue) ∷ ‵ (owns (MutRef (named 0) κ₀ T.the-row ∷ ShrSlice (named 1) κ₁ u32 ∷ MutRef (named 2) κₐ (Array usize 5) ∷ []) a at) ∷ []) ∵ enter ! C Λ code (vptr b o ∷ vx ∷ vptr c p ∷ []) _ $
-          alloc1 ! (λ l0. alloc1 ! (λ l1. alloc1 ! (λ l2. alloc1 ! (λ l3. alloc1 ! (λ l4. alloc1 ! (λ l5. alloc1 ! (λ l6. alloc0 ! $ params1 ! $
-          pass1 ! (init ! 10 refl (tt, tt)) $ pass1 ! (init ! 8 refl (tt, (tt, (record { fits = rx .0 }, tt)))) $ pass1 ! (init ! 6 refl (tt, tt)) $ pass0 ! $
-          assigns ! (addr ! (from ! (hop ! (look ! 10 refl) (stop !)))) (from ! (stop !)) (init ! 2 refl (tt, tt)) $
+          qed W ((‵ (flft κ₀ q₀) ⊛ ‵ (flft κ₁ q₁) ⊛ ‵ (flft κₐ qₐ) ⊛ ‵ ftrue) ∷ ‵ (owns (MutRef (named 0) κ₀ T.the-row ∷ UInt w32 ∷ ShrSlice (named 1) κ₁ u32 ∷ MutRef (named 2) κₐ (Array usize 5) ∷ []) a at) ∷ []) ∵ enter ! C Λ code (vptr b o ∷ vint w32 t₁ ∷ vx ∷ vptr c p ∷ []) _ $
+          alloc1 ! (λ l0. alloc1 ! (λ l1. alloc1 ! (λ l2. alloc1 ! (λ l3. alloc1 ! (λ l4. alloc1 ! (λ l5. alloc1 ! (λ l6. alloc1 ! (λ l7. alloc0 ! $ params1 ! $
+          pass1 ! (init ! 12 refl (tt, tt)) $ pass1 ! (init ! 10 refl (uint-lawful 𝓤 H A W w32 .typed t₁ _ gₜ .0)) $ pass1 ! (init ! 8 refl (tt, (tt, (record { fits = rx .0 }, tt)))) $ pass1 ! (init ! 6 refl (tt, tt)) $ pass0 ! $
+          assigns ! (addr ! (from ! (hop ! (look ! 12 refl) (stop !)))) (from ! (stop !)) (init ! 2 refl (tt, tt)) $
           -- what g asks: the state, a copy of the list's share
-          move ! (15 ∷ []) $ fsplit ! $ move ! (1 ∷ []) $ fsplit ! $ move ! (1 ∷ []) $ fsplit ! $
+          move ! (17 ∷ []) $ fsplit ! $ move ! (1 ∷ []) $ fsplit ! $ move ! (1 ∷ []) $ fsplit ! $ move ! (1 ∷ []) $ fsplit ! $
           move ! (2 ∷ []) $ use1 W (‵ (ShrSlice (named 1) κ₁ u32 .own xs (vx ∷ [])) ⊛ ‵ (ShrSlice (named 1) κ₁ u32 .own xs (vx ∷ []))) (shr-slice-copy 𝓤 H A W (named 1) κ₁ u32 .twice xs (vx ∷ [])) $ split ! $
-          move ! (0 ∷ 3 ∷ []) $ fjoin ! $ move ! (3 ∷ 0 ∷ []) $ fjoin ! $
-          move ! (17 ∷ []) $ split ! $ move ! (1 ∷ []) $ split ! $ nothing ! $ move ! (1 ∷ 0 ∷ []) $ join ! $ move ! (2 ∷ 0 ∷ []) $ join ! $
+          move ! (0 ∷ 3 ∷ []) $ fjoin ! $ move ! (3 ∷ 0 ∷ []) $ fjoin ! $ move ! (3 ∷ 0 ∷ []) $ fjoin ! $
+          move ! (19 ∷ []) $ split ! $ move ! (1 ∷ []) $ split ! $ nothing ! $ move ! (1 ∷ 0 ∷ []) $ join ! $ move ! (2 ∷ 0 ∷ []) $ join ! $
           move ! (0 ∷ 2 ∷ []) $ use2 W (raw (G .pre to-g)) (asked) $
-          calls-at ! fm G known to-g (and-then ! (load ! (from ! (stop !)) (look ! 6 refl)) (and-then ! (load ! (from ! (stop !)) (look ! 12 refl)) (no-more !))) (λ w.
+          calls-at ! fm G known to-g (and-then ! (load ! (from ! (stop !)) (look ! 6 refl)) (and-then ! (load ! (from ! (stop !)) (look ! 14 refl)) (and-then ! (load ! (from ! (stop !)) (look ! 12 refl)) (no-more !)))) (λ w.
           use1 W (later (some (λ (u : Looked). ((‵ (flft κ₀ q₀) ⊛ ‵ (flft κ₁ q₁) ⊛ ‵ ftrue) ⊛ ‵ (N.the-row .own u (w ∷ []))) ⊛ raw (ensured 𝓤 H A by-ended By (κ₀, (κ₁, tt)) given tt u)))) (id⊢ 𝓤 _) $ await ! tt $ pick ! (λ u. split ! $
-          move ! (1 ∷ []) $ use1 W (some (λ (zs : (Ahead × (Unit {0} × Unit {0}))). ‵ (lasts by-ended (κ₀, (κ₁, tt)) given zs) ⊛ raw (fact 𝓤 (Says (viewOf h) (xs .now) (viewOf (zs .0)) u)))) (id⊢ 𝓤 _) $ pick ! (λ zs. split ! $ move ! (1 ∷ []) $ heard ! (Says (viewOf h) (xs .now) (viewOf (zs .0)) u) (λ e.
-          fsplit ! $ move ! (1 ∷ []) $ fsplit ! $ drop ! $ drop ! $
+          move ! (1 ∷ []) $ use1 W (some (λ (zs : (Ahead × (Unit {0} × (Unit {0} × Unit {0})))). ‵ (lasts by-ended (κ₀, (κ₁, tt)) given zs) ⊛ raw (fact 𝓤 (Says (viewOf h) t₁ (xs .now) (viewOf (zs .0)) u)))) (id⊢ 𝓤 _) $ pick ! (λ zs. split ! $ move ! (1 ∷ []) $ heard ! (Says (viewOf h) t₁ (xs .now) (viewOf (zs .0)) u) (λ e.
+          fsplit ! $ move ! (1 ∷ []) $ fsplit ! $ drop ! $ fsplit ! $ drop ! $ drop ! $
           move ! (1 ∷ []) $ split ! $ move ! (1 ∷ []) $ peeks ! N.the-row (Is N.the-row) (shows 𝓤 H A N.the-row) u (w ∷ []) (λ is. land ! (from ! (stop !)) (init ! 10 refl (EL.lawful N.the-type N′.the-laws 𝓤 H A W tt .typed u _ is .0)) $
           -- the answer is told
           assigns ! (addr ! (from ! (hop ! (look ! 12 refl) (stop !)))) (from ! (stop !)) (init ! 6 refl (tt, tt)) $
@@ -185,18 +186,18 @@ module _ (k k′ : Name) (F : State → List ℕ → Turn) {M : Type 1} (𝓤 : 
           calls-at ! fm G′ known′ (to-tell u w) (and-then ! (load ! (from ! (stop !)) (look ! 8 refl)) (and-then ! (load ! (from ! (stop !)) (look ! 4 refl)) (no-more !))) (λ v.
           use1 W (later (some (λ (r : ℕ). ((‵ (flft κₐ qₐ) ⊛ ‵ ftrue) ⊛ ‵ (u32 .own r (v ∷ []))) ⊛ raw (ensured 𝓤 H A told-ended Told (κₐ, tt) (u, (told, tt)) tt r)))) (id⊢ 𝓤 _) $ await ! tt $ pick ! (λ r. split ! $
           move ! (1 ∷ []) $ use1 W (some (λ (ts : (Unit {0} × (List ℕ × Unit {0}))). ‵ (lasts told-ended (κₐ, tt) (u, (told, tt)) ts) ⊛ raw (fact 𝓤 ((r ≡ numberTold u) × (ts .1 .0 ≡ wordsTold u))))) (id⊢ 𝓤 _) $ pick ! (λ ts. split ! $ move ! (1 ∷ []) $ heard ! ((r ≡ numberTold u) × (ts .1 .0 ≡ wordsTold u)) (λ f.
-          fsplit ! $ drop ! $ fsplit ! $ move ! (1 ∷ []) $ drop ! $ move ! (1 ∷ []) $ split ! $ move ! (1 ∷ []) $ peeks ! u32 (Is u32) (shows 𝓤 H A u32) r (v ∷ []) (λ ir. land ! (from ! (stop !)) (init ! 18 refl (uint-lawful 𝓤 H A W w32 .typed r _ ir .0)) $
+          fsplit ! $ drop ! $ fsplit ! $ move ! (1 ∷ []) $ drop ! $ move ! (1 ∷ []) $ split ! $ move ! (1 ∷ []) $ peeks ! u32 (Is u32) (shows 𝓤 H A u32) r (v ∷ []) (λ ir. land ! (from ! (stop !)) (init ! 20 refl (uint-lawful 𝓤 H A W w32 .typed r _ ir .0)) $
           move ! (3 ∷ []) $ split ! $ move ! (1 ∷ []) $ split ! $ move ! (1 ∷ []) $ drop ! $ move ! (0 ∷ 3 ∷ []) $ join ! $ move ! (1 ∷ 0 ∷ []) $ join ! $
-          returns ! (look ! 17 refl) $ forget ! 5 refl $ forget ! 7 refl $ forget ! 9 refl $ forget ! 11 refl $ forget ! 13 refl $ forget ! 15 refl $ forget ! 17 refl $
-          move ! (17 ∷ 18 ∷ []) $ free1 ! $ move ! (15 ∷ 16 ∷ []) $ free1 ! $ move ! (13 ∷ 14 ∷ []) $ free1 ! $ move ! (11 ∷ 12 ∷ []) $ free1 ! $ move ! (9 ∷ 10 ∷ []) $ free1 ! $ move ! (7 ∷ 8 ∷ []) $ free1 ! $ move ! (5 ∷ 6 ∷ []) $ free1 ! $ free0 ! $
-          keep ! (0 ∷ 3 ∷ 4 ∷ 2 ∷ 1 ∷ []) $ by ! (exits (zs .0) (ts .1 .0) r v (follows (viewOf h) (xs .now) (viewOf (zs .0)) u r (ts .1 .0) e (f .0) (f .1))))))))))))))))))))
+          returns ! (look ! 19 refl) $ forget ! 5 refl $ forget ! 7 refl $ forget ! 9 refl $ forget ! 11 refl $ forget ! 13 refl $ forget ! 15 refl $ forget ! 17 refl $ forget ! 19 refl $
+          move ! (19 ∷ 20 ∷ []) $ free1 ! $ move ! (17 ∷ 18 ∷ []) $ free1 ! $ move ! (15 ∷ 16 ∷ []) $ free1 ! $ move ! (13 ∷ 14 ∷ []) $ free1 ! $ move ! (11 ∷ 12 ∷ []) $ free1 ! $ move ! (9 ∷ 10 ∷ []) $ free1 ! $ move ! (7 ∷ 8 ∷ []) $ free1 ! $ move ! (5 ∷ 6 ∷ []) $ free1 ! $ free0 ! $
+          keep ! (0 ∷ 3 ∷ 4 ∷ 2 ∷ 1 ∷ []) $ by ! (exits (zs .0) (ts .1 .0) r v (follows (viewOf h) t₁ (xs .now) (viewOf (zs .0)) u r (ts .1 .0) e (f .0) (f .1)))))))))))))))))))))
 
   walks : (C : Calls 𝓤 H) (Λ : Loops 𝓤 H) → FmC 𝓤 H (W .laws) C → Triple 𝓤 (C k) G → Triple 𝓤 (C k′) G′ → Walks 𝓤 H A own-ended stayed (WpFn 𝓤 H C Λ code) Own
   walks C Λ fm known known′ =
-      walked 𝓤 H A own-ended stayed Own (WpFn 𝓤 H C Λ code) (λ κs. (ptr-vals, (slice-vals, (ptr-vals, tt)))) (λ κs. (mut-tells (named 0) (κs .0) T.the-row, (shr-slice-tells (named 1) (κs .1 .0) u32, (mut-tells (named 2) (κs .1 .1 .0) (Array usize 5), tt))))
-      (λ κs qs bounds a _ are. via 𝓤 _ (fst∗ 𝓤 _ (emp 𝓤)) (walk (κs .0) (κs .1 .0) (κs .1 .1 .0) (qs .0) (qs .1 .0) (qs .1 .1 .0) (a .0 .ptr .0) (a .0 .ptr .1) (a .0 .name) (a .0 .now) (a .1 .0) (a .1 .1 .0 .ptr .0) (a .1 .1 .0 .ptr .1) (a .1 .1 .0 .name) (a .1 .1 .0 .now) C Λ fm known known′ (are .1 .0 .0 .1)))
+      walked 𝓤 H A own-ended stayed Own (WpFn 𝓤 H C Λ code) (λ κs. (ptr-vals, (uint-vals w32, (slice-vals, (ptr-vals, tt))))) (λ κs. (mut-tells (named 0) (κs .0) T.the-row, (uint-tells w32, (shr-slice-tells (named 1) (κs .1 .0) u32, (mut-tells (named 2) (κs .1 .1 .0) (Array usize 5), tt)))))
+      (λ κs qs bounds a _ are. via 𝓤 _ (fst∗ 𝓤 _ (emp 𝓤)) (walk (κs .0) (κs .1 .0) (κs .1 .1 .0) (qs .0) (qs .1 .0) (qs .1 .1 .0) (a .0 .ptr .0) (a .0 .ptr .1) (a .0 .name) (a .0 .now) (a .1 .0) (a .1 .1 .0) (a .1 .1 .1 .0 .ptr .0) (a .1 .1 .1 .0 .ptr .1) (a .1 .1 .1 .0 .name) (a .1 .1 .1 .0 .now) (are .1 .0) C Λ fm known known′ (are .1 .1 .0 .0 .1)))
 
   pub pass-meets : (𝓣 : Tables 𝓤 H) → Triple 𝓤 (𝓣 .C k) G → Triple 𝓤 (𝓣 .C k′) G′ → Meets 𝓤 H A (own-ended .signature) (WpFn 𝓤 H (𝓣 .C) (𝓣 .Λ) code) (closing 𝓤 H A own-ended Own)
   pass-meets 𝓣 known known′ =
-      walk-meets 𝓤 H A own-ended stayed W (goes-gave-ref 𝓤 H A W 3 0 tt (plain (λ _. T.the-row)), (goes-none-slice 𝓤 H A W 3 (1 ∷ []) tt (plain (λ _. u32)) yes, (goes-gave-ref 𝓤 H A W 3 2 tt (plain (λ _. Array usize 5)), tt))) Own
+      walk-meets 𝓤 H A own-ended stayed W (goes-gave-ref 𝓤 H A W 3 0 tt (plain (λ _. T.the-row)), (goes-none 𝓤 H A W 3 (λ _. UInt w32) yes (λ κs x f. refl), (goes-none-slice 𝓤 H A W 3 (1 ∷ []) tt (plain (λ _. u32)) yes, (goes-gave-ref 𝓤 H A W 3 2 tt (plain (λ _. Array usize 5)), tt)))) Own
       (WpFn 𝓤 H (𝓣 .C) (𝓣 .Λ) code) (WpFn-mono 𝓤 H (W .laws) 𝓣 code) (walks (𝓣 .C) (𝓣 .Λ) (fmOf 𝓤 H (W .laws) 𝓣) known known′)

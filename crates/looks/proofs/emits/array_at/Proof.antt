@@ -4,10 +4,10 @@ use native.Mathlib.Omega.{arith}
 use borrow.Author.Needs.{needs}
 use lib.Seq.{sets}
 use lib.ListN.{length}
-use Rattle.looks.specs.Buffer.{State, gathers, stateOf}
 use Rattle.looks.proofs.Advances.{array-length, array-none}
 use Rattle.looks.proofs.Answers.{ready-for, sound-bounded}
 use Rattle.looks.proofs.Turns.{parts, parts-of, stored-done, stored-short, unless-no, unless-yes}
+use Rattle.looks.specs.Buffer.{State, gathers, stateOf}
 use Rattle.looks.specs.Calls.{arrayBy, arrayTurn, arrayWords, storedBy}
 use Rattle.looks.proofs.emits.array_at.Statement.{statement}
 use Rattle.looks.proofs.emits.array_at.Tie as tie
@@ -33,7 +33,7 @@ lacks-requires : tie.Need-lacks-requires
 lacks-requires c κs = search needs
 
 gathers-at-requires : tie.Need-gathers-at-requires
-gathers-at-requires c κs = ready-for (c .before .before .before .before .before .before .before .before .before .before .before .before .args .list .now) (c .before .before .before .before .before .before .before .before .before .before .before .before .args .nums) (c .before .before .before .before .before .before .before .before .before .before .before .before .args .n) _ (sound-bounded (c .before .before .before .before .before .before .before .before .before .before .before .before .args .list .now) (stateOf (c .before .before .before .before .before .before .before .before .before .before .before .before .args .nums) (c .before .before .before .before .before .before .before .before .before .before .before .before .args .held .now) (c .before .before .before .before .before .before .before .before .before .before .before .before .args .counts .now) (c .before .before .before .before .before .before .before .before .before .before .before .before .args .waiting .now)) ((array-none (c .before .before .before .before .before .before .before .before .before .before .before .before .args .list .now) (c .before .before .before .before .before .before .before .before .before .before .before .before .args .n) (stateOf (c .before .before .before .before .before .before .before .before .before .before .before .before .args .nums) (c .before .before .before .before .before .before .before .before .before .before .before .before .args .held .now) (c .before .before .before .before .before .before .before .before .before .before .before .before .args .counts .now) (c .before .before .before .before .before .before .before .before .before .before .before .before .args .waiting .now)) (sym (c .before .before .before .before .before .before .array-refusal .ensures) ∙ c .before .before .before .before .before .if1 .left)) .0)) ((array-none (c .before .before .before .before .before .before .before .before .before .before .before .before .args .list .now) (c .before .before .before .before .before .before .before .before .before .before .before .before .args .n) (stateOf (c .before .before .before .before .before .before .before .before .before .before .before .before .args .nums) (c .before .before .before .before .before .before .before .before .before .before .before .before .args .held .now) (c .before .before .before .before .before .before .before .before .before .before .before .before .args .counts .now) (c .before .before .before .before .before .before .before .before .before .before .before .before .args .waiting .now)) (sym (c .before .before .before .before .before .before .array-refusal .ensures) ∙ c .before .before .before .before .before .if1 .left)) .1) (c .lacks .ensures)
+gathers-at-requires c κs = ready-for (c .before .before .before .before .before .before .before .before .before .before .before .before .args .list .now) (c .before .before .before .before .before .before .before .before .before .before .before .before .args .nums) (c .before .before .before .before .before .before .before .before .before .before .before .before .args .n) _ (sound-bounded (c .before .before .before .before .before .before .before .before .before .before .before .before .args .tested) (c .before .before .before .before .before .before .before .before .before .before .before .before .args .list .now) (stateOf (c .before .before .before .before .before .before .before .before .before .before .before .before .args .nums) (c .before .before .before .before .before .before .before .before .before .before .before .before .args .held .now) (c .before .before .before .before .before .before .before .before .before .before .before .before .args .counts .now) (c .before .before .before .before .before .before .before .before .before .before .before .before .args .waiting .now)) ((array-none (c .before .before .before .before .before .before .before .before .before .before .before .before .args .tested) (c .before .before .before .before .before .before .before .before .before .before .before .before .args .list .now) (c .before .before .before .before .before .before .before .before .before .before .before .before .args .n) (stateOf (c .before .before .before .before .before .before .before .before .before .before .before .before .args .nums) (c .before .before .before .before .before .before .before .before .before .before .before .before .args .held .now) (c .before .before .before .before .before .before .before .before .before .before .before .before .args .counts .now) (c .before .before .before .before .before .before .before .before .before .before .before .before .args .waiting .now)) (sym (c .before .before .before .before .before .before .array-refusal .ensures) ∙ c .before .before .before .before .before .if1 .left)) .0)) ((array-none (c .before .before .before .before .before .before .before .before .before .before .before .before .args .tested) (c .before .before .before .before .before .before .before .before .before .before .before .before .args .list .now) (c .before .before .before .before .before .before .before .before .before .before .before .before .args .n) (stateOf (c .before .before .before .before .before .before .before .before .before .before .before .before .args .nums) (c .before .before .before .before .before .before .before .before .before .before .before .before .args .held .now) (c .before .before .before .before .before .before .before .before .before .before .before .before .args .counts .now) (c .before .before .before .before .before .before .before .before .before .before .before .before .args .waiting .now)) (sym (c .before .before .before .before .before .before .array-refusal .ensures) ∙ c .before .before .before .before .before .if1 .left)) .1) (c .lacks .ensures)
 
 put-array-requires : tie.Need-put-array-requires
 put-array-requires c κs = omega (arith, c .before .before .before .before .before .before .before .if2 .left)

@@ -5,11 +5,11 @@ use native.Mathlib.Omega.{arith}
 use borrow.Author.Needs.{needs}
 use lib.Seq.{sets}
 use lib.ListN.{getD, length}
-use Rattle.looks.specs.Buffer.{State, fill, gathers, stateOf}
-use Rattle.looks.specs.declared.look.Looked.the-variants.{Done}
 use Rattle.looks.proofs.Answers.{ready-for, refusal-none, sound-bounded}
 use Rattle.looks.proofs.Turns.{flush-state, parts, parts-of, sound-sum, stored-done, stored-short, unless-no, unless-yes, white-few, white-length, white-words}
+use Rattle.looks.specs.Buffer.{State, fill, gathers, stateOf}
 use Rattle.looks.specs.Calls.{flushBy, flushTurn, storedBy}
+use Rattle.looks.specs.declared.look.Looked.the-variants.{Done}
 use Rattle.looks.proofs.emits.flush_at.Statement.{statement}
 use Rattle.looks.proofs.emits.flush_at.Tie as tie
 
@@ -24,7 +24,7 @@ unfolding flushBy
 returns c = rw (c .refuse .ensures) (parts (c .before .before .before .before .before .before .before .before .args .out .now) _ _ (unless-no _ (stateOf (c .before .before .before .before .before .before .before .before .args .nums) (c .before .before .before .before .before .before .before .before .args .held .now) (c .before .before .before .before .before .before .before .before .args .counts .now) (c .before .before .before .before .before .before .before .before .args .waiting .now)) _ (c .before .before .fill-refusal .ensures) (storedBy (length (c .before .before .before .before .before .before .before .before .args .out .now)) (stateOf (c .before .before .before .before .before .before .before .before .args .nums) (c .before .before .before .before .before .before .before .before .args .held .now) (c .before .before .before .before .before .before .before .before .args .counts .now) (c .before .before .before .before .before .before .before .before .args .waiting .now)) (flushTurn (c .before .before .before .before .before .before .before .before .args .list .now) (fill (c .before .before .before .before .before .before .before .before .args .list .now) 0 (stateOf (c .before .before .before .before .before .before .before .before .args .nums) (c .before .before .before .before .before .before .before .before .args .held .now) (c .before .before .before .before .before .before .before .before .args .counts .now) (c .before .before .before .before .before .before .before .before .args .waiting .now))))) (c .before .if1 .taken)))
 
 front-of-requires : tie.Need-front-of-requires
-front-of-requires c κs = ((sound-bounded (c .before .before .before .before .before .before .before .before .before .before .before .args .list .now) (stateOf (c .before .before .before .before .before .before .before .before .before .before .before .args .nums) (c .before .before .before .before .before .before .before .before .before .before .before .args .held .now) (c .before .before .before .before .before .before .before .before .before .before .before .args .counts .now) (c .before .before .before .before .before .before .before .before .before .before .before .args .waiting .now)) ((refusal-none (c .before .before .before .before .before .before .before .before .before .before .before .args .list .now) 0 (stateOf (c .before .before .before .before .before .before .before .before .before .before .before .args .nums) (c .before .before .before .before .before .before .before .before .before .before .before .args .held .now) (c .before .before .before .before .before .before .before .before .before .before .before .args .counts .now) (c .before .before .before .before .before .before .before .before .before .before .before .args .waiting .now)) (sym (c .before .before .before .before .before .fill-refusal .ensures) ∙ c .before .before .before .before .if1 .left)) .0)) .reach, (sound-bounded (c .before .before .before .before .before .before .before .before .before .before .before .args .list .now) (stateOf (c .before .before .before .before .before .before .before .before .before .before .before .args .nums) (c .before .before .before .before .before .before .before .before .before .before .before .args .held .now) (c .before .before .before .before .before .before .before .before .before .before .before .args .counts .now) (c .before .before .before .before .before .before .before .before .before .before .before .args .waiting .now)) ((refusal-none (c .before .before .before .before .before .before .before .before .before .before .before .args .list .now) 0 (stateOf (c .before .before .before .before .before .before .before .before .before .before .before .args .nums) (c .before .before .before .before .before .before .before .before .before .before .before .args .held .now) (c .before .before .before .before .before .before .before .before .before .before .before .args .counts .now) (c .before .before .before .before .before .before .before .before .before .before .before .args .waiting .now)) (sym (c .before .before .before .before .before .fill-refusal .ensures) ∙ c .before .before .before .before .if1 .left)) .0)) .wait-few, c .before .before .front-of-arg2 .given .0, c .front-of-arg4 .given .0)
+front-of-requires c κs = ((sound-bounded (c .before .before .before .before .before .before .before .before .before .before .before .args .tested) (c .before .before .before .before .before .before .before .before .before .before .before .args .list .now) (stateOf (c .before .before .before .before .before .before .before .before .before .before .before .args .nums) (c .before .before .before .before .before .before .before .before .before .before .before .args .held .now) (c .before .before .before .before .before .before .before .before .before .before .before .args .counts .now) (c .before .before .before .before .before .before .before .before .before .before .before .args .waiting .now)) ((refusal-none (c .before .before .before .before .before .before .before .before .before .before .before .args .tested) (c .before .before .before .before .before .before .before .before .before .before .before .args .list .now) 0 (stateOf (c .before .before .before .before .before .before .before .before .before .before .before .args .nums) (c .before .before .before .before .before .before .before .before .before .before .before .args .held .now) (c .before .before .before .before .before .before .before .before .before .before .before .args .counts .now) (c .before .before .before .before .before .before .before .before .before .before .before .args .waiting .now)) (sym (c .before .before .before .before .before .fill-refusal .ensures) ∙ c .before .before .before .before .if1 .left)) .0)) .reach, (sound-bounded (c .before .before .before .before .before .before .before .before .before .before .before .args .tested) (c .before .before .before .before .before .before .before .before .before .before .before .args .list .now) (stateOf (c .before .before .before .before .before .before .before .before .before .before .before .args .nums) (c .before .before .before .before .before .before .before .before .before .before .before .args .held .now) (c .before .before .before .before .before .before .before .before .before .before .before .args .counts .now) (c .before .before .before .before .before .before .before .before .before .before .before .args .waiting .now)) ((refusal-none (c .before .before .before .before .before .before .before .before .before .before .before .args .tested) (c .before .before .before .before .before .before .before .before .before .before .before .args .list .now) 0 (stateOf (c .before .before .before .before .before .before .before .before .before .before .before .args .nums) (c .before .before .before .before .before .before .before .before .before .before .before .args .held .now) (c .before .before .before .before .before .before .before .before .before .before .before .args .counts .now) (c .before .before .before .before .before .before .before .before .before .before .before .args .waiting .now)) (sym (c .before .before .before .before .before .fill-refusal .ensures) ∙ c .before .before .before .before .if1 .left)) .0)) .wait-few, c .before .before .front-of-arg2 .given .0, c .front-of-arg4 .given .0)
 
 refuse-requires-2 : tie.Need-refuse-requires-2
 refuse-requires-2 c κs = search needs
@@ -37,7 +37,7 @@ lacks-requires : tie.Need-lacks-requires
 lacks-requires c κs = search needs
 
 gathers-at-requires : tie.Need-gathers-at-requires
-gathers-at-requires c κs = ready-for (c .before .before .before .before .before .before .before .before .before .before .before .before .before .before .before .before .before .args .list .now) (c .before .before .before .before .before .before .before .before .before .before .before .before .before .before .before .before .before .args .nums) 1 _ (sound-bounded (c .before .before .before .before .before .before .before .before .before .before .before .before .before .before .before .before .before .args .list .now) (stateOf (c .before .before .before .before .before .before .before .before .before .before .before .before .before .before .before .before .before .args .nums) (c .before .before .before .before .before .before .before .before .before .before .before .before .before .before .before .before .before .args .held .now) (c .before .before .before .before .before .before .before .before .before .before .before .before .before .before .before .before .before .args .counts .now) (c .before .before .before .before .before .before .before .before .before .before .before .before .before .before .before .before .before .args .waiting .now)) ((refusal-none (c .before .before .before .before .before .before .before .before .before .before .before .before .before .before .before .before .before .args .list .now) 0 (stateOf (c .before .before .before .before .before .before .before .before .before .before .before .before .before .before .before .before .before .args .nums) (c .before .before .before .before .before .before .before .before .before .before .before .before .before .before .before .before .before .args .held .now) (c .before .before .before .before .before .before .before .before .before .before .before .before .before .before .before .before .before .args .counts .now) (c .before .before .before .before .before .before .before .before .before .before .before .before .before .before .before .before .before .args .waiting .now)) (sym (c .before .before .before .before .before .before .before .before .before .before .before .fill-refusal .ensures) ∙ c .before .before .before .before .before .before .before .before .before .before .if1 .left)) .0)) (omega arith) (c .lacks .ensures)
+gathers-at-requires c κs = ready-for (c .before .before .before .before .before .before .before .before .before .before .before .before .before .before .before .before .before .args .list .now) (c .before .before .before .before .before .before .before .before .before .before .before .before .before .before .before .before .before .args .nums) 1 _ (sound-bounded (c .before .before .before .before .before .before .before .before .before .before .before .before .before .before .before .before .before .args .tested) (c .before .before .before .before .before .before .before .before .before .before .before .before .before .before .before .before .before .args .list .now) (stateOf (c .before .before .before .before .before .before .before .before .before .before .before .before .before .before .before .before .before .args .nums) (c .before .before .before .before .before .before .before .before .before .before .before .before .before .before .before .before .before .args .held .now) (c .before .before .before .before .before .before .before .before .before .before .before .before .before .before .before .before .before .args .counts .now) (c .before .before .before .before .before .before .before .before .before .before .before .before .before .before .before .before .before .args .waiting .now)) ((refusal-none (c .before .before .before .before .before .before .before .before .before .before .before .before .before .before .before .before .before .args .tested) (c .before .before .before .before .before .before .before .before .before .before .before .before .before .before .before .before .before .args .list .now) 0 (stateOf (c .before .before .before .before .before .before .before .before .before .before .before .before .before .before .before .before .before .args .nums) (c .before .before .before .before .before .before .before .before .before .before .before .before .before .before .before .before .before .args .held .now) (c .before .before .before .before .before .before .before .before .before .before .before .before .before .before .before .before .before .args .counts .now) (c .before .before .before .before .before .before .before .before .before .before .before .before .before .before .before .before .before .args .waiting .now)) (sym (c .before .before .before .before .before .before .before .before .before .before .before .fill-refusal .ensures) ∙ c .before .before .before .before .before .before .before .before .before .before .if1 .left)) .0)) (omega arith) (c .lacks .ensures)
 
 put-waiting-requires : tie.Need-put-waiting-requires
 put-waiting-requires c κs = omega (arith, c .before .before .before .before .before .before .before .if2 .left)
@@ -49,7 +49,7 @@ element-write-counts : tie.Need-element-write-counts
 element-write-counts c = search needs
 
 less-waiting-requires : tie.Need-less-waiting-requires
-less-waiting-requires c κs = omega (arith, (white-few (c .before .before .before .before .before .before .before .before .before .before .before .before .before .before .before .before .before .before .before .before .before .before .before .before .args .list .now) (stateOf (c .before .before .before .before .before .before .before .before .before .before .before .before .before .before .before .before .before .before .before .before .before .before .before .before .args .nums) (c .before .before .before .before .before .before .before .before .before .before .before .before .before .before .before .before .before .before .before .before .before .before .before .before .args .held .now) (c .before .before .before .before .before .before .before .before .before .before .before .before .before .before .before .before .before .before .before .before .before .before .before .before .args .counts .now) (c .before .before .before .before .before .before .before .before .before .before .before .before .before .before .before .before .before .before .before .before .before .before .before .before .args .waiting .now)) (sound-sum (c .before .before .before .before .before .before .before .before .before .before .before .before .before .before .before .before .before .before .before .before .before .before .before .before .args .list .now) (stateOf (c .before .before .before .before .before .before .before .before .before .before .before .before .before .before .before .before .before .before .before .before .before .before .before .before .args .nums) (c .before .before .before .before .before .before .before .before .before .before .before .before .before .before .before .before .before .before .before .before .before .before .before .before .args .held .now) (c .before .before .before .before .before .before .before .before .before .before .before .before .before .before .before .before .before .before .before .before .before .before .before .before .args .counts .now) (c .before .before .before .before .before .before .before .before .before .before .before .before .before .before .before .before .before .before .before .before .before .before .before .before .args .waiting .now)) ((refusal-none (c .before .before .before .before .before .before .before .before .before .before .before .before .before .before .before .before .before .before .before .before .before .before .before .before .args .list .now) 0 (stateOf (c .before .before .before .before .before .before .before .before .before .before .before .before .before .before .before .before .before .before .before .before .before .before .before .before .args .nums) (c .before .before .before .before .before .before .before .before .before .before .before .before .before .before .before .before .before .before .before .before .before .before .before .before .args .held .now) (c .before .before .before .before .before .before .before .before .before .before .before .before .before .before .before .before .before .before .before .before .before .before .before .before .args .counts .now) (c .before .before .before .before .before .before .before .before .before .before .before .before .before .before .before .before .before .before .before .before .before .before .before .before .args .waiting .now)) (sym (c .before .before .before .before .before .before .before .before .before .before .before .before .before .before .before .before .before .before .fill-refusal .ensures) ∙ c .before .before .before .before .before .before .before .before .before .before .before .before .before .before .before .before .before .if1 .left)) .0)) (c .before .before .before .before .before .before .before .before .before .before .before .before .before .before .before .front-of-arg2 .given .0) (c .before .before .before .before .before .before .before .before .before .before .before .before .before .front-of-arg4 .given .0)), (c .before .before .before .before .before .before .before .before .before .before .before .before .front-of .ensures .0 (c .before .before .before .before .before .before .before .before .before .before .before .before .before .before .before .before .before .before .before .before .before .before .before .before .args .waiting .now)) .0, ap (λ (x : State). x .nums .«wait_len») (c .before .before .before .before .before .before .gathers-at .ensures ∙ ap (λ (k : ℕ). gathers (c .before .before .before .before .before .before .before .before .before .before .before .before .before .before .before .before .before .before .before .before .before .before .before .before .args .list .now) k (stateOf (c .before .before .before .before .before .before .before .before .before .before .before .before .before .before .before .before .before .before .before .before .before .before .before .before .args .nums) (c .before .before .before .before .before .before .before .before .before .before .before .before .before .before .before .before .before .before .before .before .before .before .before .before .args .held .now) (c .before .before .before .before .before .before .before .before .before .before .before .before .before .before .before .before .before .before .before .before .before .before .before .before .args .counts .now) (c .before .before .before .before .before .before .before .before .before .before .before .before .before .before .before .before .before .before .before .before .before .before .before .before .args .waiting .now))) (c .before .before .before .before .before .before .before .lacks .ensures)))
+less-waiting-requires c κs = omega (arith, (white-few (c .before .before .before .before .before .before .before .before .before .before .before .before .before .before .before .before .before .before .before .before .before .before .before .before .args .list .now) (stateOf (c .before .before .before .before .before .before .before .before .before .before .before .before .before .before .before .before .before .before .before .before .before .before .before .before .args .nums) (c .before .before .before .before .before .before .before .before .before .before .before .before .before .before .before .before .before .before .before .before .before .before .before .before .args .held .now) (c .before .before .before .before .before .before .before .before .before .before .before .before .before .before .before .before .before .before .before .before .before .before .before .before .args .counts .now) (c .before .before .before .before .before .before .before .before .before .before .before .before .before .before .before .before .before .before .before .before .before .before .before .before .args .waiting .now)) (sound-sum (c .before .before .before .before .before .before .before .before .before .before .before .before .before .before .before .before .before .before .before .before .before .before .before .before .args .tested) (c .before .before .before .before .before .before .before .before .before .before .before .before .before .before .before .before .before .before .before .before .before .before .before .before .args .list .now) (stateOf (c .before .before .before .before .before .before .before .before .before .before .before .before .before .before .before .before .before .before .before .before .before .before .before .before .args .nums) (c .before .before .before .before .before .before .before .before .before .before .before .before .before .before .before .before .before .before .before .before .before .before .before .before .args .held .now) (c .before .before .before .before .before .before .before .before .before .before .before .before .before .before .before .before .before .before .before .before .before .before .before .before .args .counts .now) (c .before .before .before .before .before .before .before .before .before .before .before .before .before .before .before .before .before .before .before .before .before .before .before .before .args .waiting .now)) ((refusal-none (c .before .before .before .before .before .before .before .before .before .before .before .before .before .before .before .before .before .before .before .before .before .before .before .before .args .tested) (c .before .before .before .before .before .before .before .before .before .before .before .before .before .before .before .before .before .before .before .before .before .before .before .before .args .list .now) 0 (stateOf (c .before .before .before .before .before .before .before .before .before .before .before .before .before .before .before .before .before .before .before .before .before .before .before .before .args .nums) (c .before .before .before .before .before .before .before .before .before .before .before .before .before .before .before .before .before .before .before .before .before .before .before .before .args .held .now) (c .before .before .before .before .before .before .before .before .before .before .before .before .before .before .before .before .before .before .before .before .before .before .before .before .args .counts .now) (c .before .before .before .before .before .before .before .before .before .before .before .before .before .before .before .before .before .before .before .before .before .before .before .before .args .waiting .now)) (sym (c .before .before .before .before .before .before .before .before .before .before .before .before .before .before .before .before .before .before .fill-refusal .ensures) ∙ c .before .before .before .before .before .before .before .before .before .before .before .before .before .before .before .before .before .if1 .left)) .0)) (c .before .before .before .before .before .before .before .before .before .before .before .before .before .before .before .front-of-arg2 .given .0) (c .before .before .before .before .before .before .before .before .before .before .before .before .before .front-of-arg4 .given .0)), (c .before .before .before .before .before .before .before .before .before .before .before .before .front-of .ensures .0 (c .before .before .before .before .before .before .before .before .before .before .before .before .before .before .before .before .before .before .before .before .before .before .before .before .args .waiting .now)) .0, ap (λ (x : State). x .nums .«wait_len») (c .before .before .before .before .before .before .gathers-at .ensures ∙ ap (λ (k : ℕ). gathers (c .before .before .before .before .before .before .before .before .before .before .before .before .before .before .before .before .before .before .before .before .before .before .before .before .args .list .now) k (stateOf (c .before .before .before .before .before .before .before .before .before .before .before .before .before .before .before .before .before .before .before .before .before .before .before .before .args .nums) (c .before .before .before .before .before .before .before .before .before .before .before .before .before .before .before .before .before .before .before .before .before .before .before .before .args .held .now) (c .before .before .before .before .before .before .before .before .before .before .before .before .before .before .before .before .before .before .before .before .before .before .before .before .args .counts .now) (c .before .before .before .before .before .before .before .before .before .before .before .before .before .before .before .before .before .before .before .before .before .before .before .before .args .waiting .now))) (c .before .before .before .before .before .before .before .lacks .ensures)))
 
 done-requires : tie.Need-done-requires
 done-requires c κs = search needs

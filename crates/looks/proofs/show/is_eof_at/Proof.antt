@@ -4,11 +4,11 @@ use mathlib.Core.List.{List}
 use borrow.Author.Needs.{needs}
 use lib.Dec.{eqb}
 use lib.ListN.{getD}
+use Rattle.looks.proofs.Answers.{asked-no, asked-yes}
 use Rattle.looks.specs.Buffer.{stateOf}
+use Rattle.looks.specs.Calls.{Turn, isEofBy, shows}
 use Rattle.looks.specs.Front.{nthOf, yes}
 use Rattle.looks.specs.declared.look.Looked.the-variants.{Done}
-use Rattle.looks.proofs.Answers.{asked-no, asked-yes}
-use Rattle.looks.specs.Calls.{Turn, isEofBy, shows}
 use Rattle.looks.proofs.show.is_eof_at.Statement.{statement}
 use Rattle.looks.proofs.show.is_eof_at.Tie as tie
 
@@ -20,7 +20,7 @@ refuse-requires c κs = search needs
 
 returns : tie.Need-returns
 unfolding isEofBy
-returns c = rw (c .refuse .ensures) (asked-no (c .before .before .before .before .before .before .before .before .before .args .list .now) 0 (stateOf (c .before .before .before .before .before .before .before .before .before .args .nums) (c .before .before .before .before .before .before .before .before .before .args .held .now) (c .before .before .before .before .before .before .before .before .before .args .counts .now) (c .before .before .before .before .before .before .before .before .before .args .waiting .now)) _ (c .before .before .before .before .filled-at .ensures .0) (λ f. shows (yes (eqb (getD (nthOf (c .before .before .before .before .before .before .before .before .before .args .list .now) 0 f) 0 0) 67)) f) _ (c .before .before .before .before .filled-at .ensures .1) (c .before .if1 .taken))
+returns c = rw (c .refuse .ensures) (asked-no (c .before .before .before .before .before .before .before .before .before .args .tested) (c .before .before .before .before .before .before .before .before .before .args .list .now) 0 (stateOf (c .before .before .before .before .before .before .before .before .before .args .nums) (c .before .before .before .before .before .before .before .before .before .args .held .now) (c .before .before .before .before .before .before .before .before .before .args .counts .now) (c .before .before .before .before .before .before .before .before .before .args .waiting .now)) _ (c .before .before .before .before .filled-at .ensures .0) (λ f. shows (yes (eqb (getD (nthOf (c .before .before .before .before .before .before .before .before .before .args .list .now) 0 f) 0 0) 67)) f) _ (c .before .before .before .before .filled-at .ensures .1) (c .before .if1 .taken))
 
 nth-words-requires : tie.Need-nth-words-requires
 nth-words-requires c κs = search needs
@@ -33,7 +33,7 @@ done-requires c κs = search needs
 
 returns-2 : tie.Need-returns-2
 unfolding isEofBy
-returns-2 c = let w = asked-yes (c .before .before .before .before .before .before .before .before .before .before .before .before .args .list .now) 0 (stateOf (c .before .before .before .before .before .before .before .before .before .before .before .before .args .nums) (c .before .before .before .before .before .before .before .before .before .before .before .before .args .held .now) (c .before .before .before .before .before .before .before .before .before .before .before .before .args .counts .now) (c .before .before .before .before .before .before .before .before .before .before .before .before .args .waiting .now)) _ (c .before .before .before .before .before .before .before .filled-at .ensures .0) (λ f. shows (yes (eqb (getD (nthOf (c .before .before .before .before .before .before .before .before .before .before .before .before .args .list .now) 0 f) 0 0) 67)) f) _ (c .before .before .before .before .before .before .before .filled-at .ensures .1) (c .before .before .before .before .if1 .left) in rw (c .done .ensures) (ap (λ (t : Turn). t .state) w, ap (λ (k : ℕ). Done 0 k 0 0) (c .before .is-kind .ensures ∙ ap (λ (ws : List ℕ). yes (eqb (getD ws 0 0) 67)) (c .before .before .nth-words .ensures)) ∙ ap (λ (t : Turn). t .answer) w)
+returns-2 c = let w = asked-yes (c .before .before .before .before .before .before .before .before .before .before .before .before .args .tested) (c .before .before .before .before .before .before .before .before .before .before .before .before .args .list .now) 0 (stateOf (c .before .before .before .before .before .before .before .before .before .before .before .before .args .nums) (c .before .before .before .before .before .before .before .before .before .before .before .before .args .held .now) (c .before .before .before .before .before .before .before .before .before .before .before .before .args .counts .now) (c .before .before .before .before .before .before .before .before .before .before .before .before .args .waiting .now)) _ (c .before .before .before .before .before .before .before .filled-at .ensures .0) (λ f. shows (yes (eqb (getD (nthOf (c .before .before .before .before .before .before .before .before .before .before .before .before .args .list .now) 0 f) 0 0) 67)) f) _ (c .before .before .before .before .before .before .before .filled-at .ensures .1) (c .before .before .before .before .if1 .left) in rw (c .done .ensures) (ap (λ (t : Turn). t .state) w, ap (λ (k : ℕ). Done 0 k 0 0) (c .before .is-kind .ensures ∙ ap (λ (ws : List ℕ). yes (eqb (getD ws 0 0) 67)) (c .before .before .nth-words .ensures)) ∙ ap (λ (t : Turn). t .answer) w)
 
 pub is-eof-at-spec : {M : Type 1} → statement M
 is-eof-at-spec =

@@ -3,11 +3,11 @@ use mathlib.Core.Path.{ap, _∙_}
 use mathlib.Core.List.{List}
 use borrow.Author.Needs.{needs}
 use lib.ListN.{getD}
+use Rattle.looks.proofs.Answers.{asked-no, asked-yes}
 use Rattle.looks.specs.Buffer.{stateOf}
+use Rattle.looks.specs.Calls.{Turn, nthBy, shows}
 use Rattle.looks.specs.Front.{nthOf}
 use Rattle.looks.specs.declared.look.Looked.the-variants.{Done}
-use Rattle.looks.proofs.Answers.{asked-no, asked-yes}
-use Rattle.looks.specs.Calls.{Turn, nthBy, shows}
 use Rattle.looks.proofs.show.nth_at.Statement.{statement}
 use Rattle.looks.proofs.show.nth_at.Tie as tie
 
@@ -19,7 +19,7 @@ refuse-requires c κs = search needs
 
 returns : tie.Need-returns
 unfolding nthBy
-returns c = rw (c .refuse .ensures) (asked-no (c .before .before .before .before .before .before .before .before .before .args .list .now) (c .before .before .before .before .before .before .before .before .before .args .n) (stateOf (c .before .before .before .before .before .before .before .before .before .args .nums) (c .before .before .before .before .before .before .before .before .before .args .held .now) (c .before .before .before .before .before .before .before .before .before .args .counts .now) (c .before .before .before .before .before .before .before .before .before .args .waiting .now)) _ (c .before .before .before .before .filled-at .ensures .0) (λ f. shows (getD (nthOf (c .before .before .before .before .before .before .before .before .before .args .list .now) (c .before .before .before .before .before .before .before .before .before .args .n) f) 0 0) f) _ (c .before .before .before .before .filled-at .ensures .1) (c .before .if1 .taken))
+returns c = rw (c .refuse .ensures) (asked-no (c .before .before .before .before .before .before .before .before .before .args .tested) (c .before .before .before .before .before .before .before .before .before .args .list .now) (c .before .before .before .before .before .before .before .before .before .args .n) (stateOf (c .before .before .before .before .before .before .before .before .before .args .nums) (c .before .before .before .before .before .before .before .before .before .args .held .now) (c .before .before .before .before .before .before .before .before .before .args .counts .now) (c .before .before .before .before .before .before .before .before .before .args .waiting .now)) _ (c .before .before .before .before .filled-at .ensures .0) (λ f. shows (getD (nthOf (c .before .before .before .before .before .before .before .before .before .args .list .now) (c .before .before .before .before .before .before .before .before .before .args .n) f) 0 0) f) _ (c .before .before .before .before .filled-at .ensures .1) (c .before .if1 .taken))
 
 nth-words-requires : tie.Need-nth-words-requires
 nth-words-requires c κs = search needs
@@ -29,7 +29,7 @@ done-requires c κs = search needs
 
 returns-2 : tie.Need-returns-2
 unfolding nthBy
-returns-2 c = let w = asked-yes (c .before .before .before .before .before .before .before .before .before .before .before .args .list .now) (c .before .before .before .before .before .before .before .before .before .before .before .args .n) (stateOf (c .before .before .before .before .before .before .before .before .before .before .before .args .nums) (c .before .before .before .before .before .before .before .before .before .before .before .args .held .now) (c .before .before .before .before .before .before .before .before .before .before .before .args .counts .now) (c .before .before .before .before .before .before .before .before .before .before .before .args .waiting .now)) _ (c .before .before .before .before .before .before .filled-at .ensures .0) (λ f. shows (getD (nthOf (c .before .before .before .before .before .before .before .before .before .before .before .args .list .now) (c .before .before .before .before .before .before .before .before .before .before .before .args .n) f) 0 0) f) _ (c .before .before .before .before .before .before .filled-at .ensures .1) (c .before .before .before .if1 .left) in rw (c .done .ensures) (ap (λ (t : Turn). t .state) w, ap (λ (ws : List ℕ). Done 0 (getD ws 0 0) 0 0) (c .before .nth-words .ensures) ∙ ap (λ (t : Turn). t .answer) w)
+returns-2 c = let w = asked-yes (c .before .before .before .before .before .before .before .before .before .before .before .args .tested) (c .before .before .before .before .before .before .before .before .before .before .before .args .list .now) (c .before .before .before .before .before .before .before .before .before .before .before .args .n) (stateOf (c .before .before .before .before .before .before .before .before .before .before .before .args .nums) (c .before .before .before .before .before .before .before .before .before .before .before .args .held .now) (c .before .before .before .before .before .before .before .before .before .before .before .args .counts .now) (c .before .before .before .before .before .before .before .before .before .before .before .args .waiting .now)) _ (c .before .before .before .before .before .before .filled-at .ensures .0) (λ f. shows (getD (nthOf (c .before .before .before .before .before .before .before .before .before .before .before .args .list .now) (c .before .before .before .before .before .before .before .before .before .before .before .args .n) f) 0 0) f) _ (c .before .before .before .before .before .before .filled-at .ensures .1) (c .before .before .before .if1 .left) in rw (c .done .ensures) (ap (λ (t : Turn). t .state) w, ap (λ (ws : List ℕ). Done 0 (getD ws 0 0) 0 0) (c .before .nth-words .ensures) ∙ ap (λ (t : Turn). t .answer) w)
 
 pub nth-at-spec : {M : Type 1} → statement M
 nth-at-spec =

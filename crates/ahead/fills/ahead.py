@@ -1,0 +1,1 @@
+fill('Ahead/new', {'returns': 'rw (@flag .ensures)'})

@@ -1,1 +1,0 @@
-fill('ahead/Ahead/new', {'returns': 'rw (@flag .ensures)'})
