@@ -49,23 +49,26 @@ impl Ahead {
     }
 }
 
+/// The list and the state were tested before: the list is our own, and the state is one that the calls left.
+const TESTED: u32 = 1;
+
 macro_rules! calls {
     ($($name:ident($($argument:ident: $of:ty),*);)*) => {
         extern "C" {
-            $(fn $name(state: *mut Ahead, $($argument: $of,)* answer: *mut Answer) -> u32;)*
+            $(fn $name(state: *mut Ahead, tested: u32, $($argument: $of,)* answer: *mut Answer) -> u32;)*
         }
     };
 }
 
 calls! {
-    puffsatchel_tested_peek(list: *const u32, list_len: usize);
-    puffsatchel_tested_nth(n: usize, list: *const u32, list_len: usize);
-    puffsatchel_tested_glued(n: usize, list: *const u32, list_len: usize);
-    puffsatchel_tested_is_eof(list: *const u32, list_len: usize);
-    puffsatchel_tested_flush_ws(list: *const u32, list_len: usize, out: *mut u32, out_len: usize);
-    puffsatchel_tested_bump(list: *const u32, list_len: usize, out: *mut u32, out_len: usize);
-    puffsatchel_tested_bump_while(kind: u32, list: *const u32, list_len: usize, out: *mut u32, out_len: usize);
-    puffsatchel_tested_bump_if(kind: u32, list: *const u32, list_len: usize, out: *mut u32, out_len: usize);
+    puffsatchel_peek(list: *const u32, list_len: usize);
+    puffsatchel_nth(n: usize, list: *const u32, list_len: usize);
+    puffsatchel_glued(n: usize, list: *const u32, list_len: usize);
+    puffsatchel_is_eof(list: *const u32, list_len: usize);
+    puffsatchel_flush_ws(list: *const u32, list_len: usize, out: *mut u32, out_len: usize);
+    puffsatchel_bump(list: *const u32, list_len: usize, out: *mut u32, out_len: usize);
+    puffsatchel_bump_while(kind: u32, list: *const u32, list_len: usize, out: *mut u32, out_len: usize);
+    puffsatchel_bump_if(kind: u32, list: *const u32, list_len: usize, out: *mut u32, out_len: usize);
 }
 
 /// The calls for a list of tokens, from its first to its end. Before a parser takes a token it peeks, and now and then does what the crate's
@@ -171,14 +174,14 @@ fn ask(state: &mut Ahead, (code, argument): (u8, u8), list: &[u32], out: &mut [u
     // SAFETY: each pointer is of as many elements as the number beside it says, and nothing overlaps.
     unsafe {
         match code {
-            PEEK => puffsatchel_tested_peek(state, list, list_len, answer),
-            NTH => puffsatchel_tested_nth(state, n, list, list_len, answer),
-            GLUED => puffsatchel_tested_glued(state, n, list, list_len, answer),
-            FLUSH_WS => puffsatchel_tested_flush_ws(state, list, list_len, out, out_len, answer),
-            BUMP => puffsatchel_tested_bump(state, list, list_len, out, out_len, answer),
-            BUMP_WHILE => puffsatchel_tested_bump_while(state, kind, list, list_len, out, out_len, answer),
-            BUMP_IF => puffsatchel_tested_bump_if(state, kind, list, list_len, out, out_len, answer),
-            IS_EOF => puffsatchel_tested_is_eof(state, list, list_len, answer),
+            PEEK => puffsatchel_peek(state, TESTED, list, list_len, answer),
+            NTH => puffsatchel_nth(state, TESTED, n, list, list_len, answer),
+            GLUED => puffsatchel_glued(state, TESTED, n, list, list_len, answer),
+            FLUSH_WS => puffsatchel_flush_ws(state, TESTED, list, list_len, out, out_len, answer),
+            BUMP => puffsatchel_bump(state, TESTED, list, list_len, out, out_len, answer),
+            BUMP_WHILE => puffsatchel_bump_while(state, TESTED, kind, list, list_len, out, out_len, answer),
+            BUMP_IF => puffsatchel_bump_if(state, TESTED, kind, list, list_len, out, out_len, answer),
+            IS_EOF => puffsatchel_is_eof(state, TESTED, list, list_len, answer),
             _ => unreachable!("scripts are of eight calls"),
         }
     }
