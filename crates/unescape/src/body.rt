@@ -4,7 +4,10 @@ use escapes::Escape;
 use items::Form;
 use items::is_bytes;
 use items::is_single;
+use items::is_template;
 use items::item_at;
+use runs::run_end;
+use runs::short_at;
 use sound::Tested;
 use text::Scalar;
 use token::Refusal;
@@ -18,11 +21,13 @@ ghost use Prim.Native.Nat.{_+_, _≤_};
 ghost use mathlib.Core.Path.{_≡_};
 ghost use mathlib.Core.Bool.{true};
 ghost use lib.Seq.{sets};
-ghost use lib.ListN.{length, take};
+ghost use lib.ListN.{drop, length, take};
 ghost use Rattle.encoding.specs.Encode.{padded};
 ghost use Rattle.items.specs.Items.{isBytes, itemBytes};
+ghost use Rattle.runs.specs.Runs.{bareOf};
+ghost use Rattle.sound.specs.Source.{soundTo};
 ghost use Rattle.text.specs.Utf8.{rest};
-ghost use Rattle.unescape.specs.Bodies.{bodyOf, itselfOf, measuredOf, readOf, refusedAt, standsOf, unescapeOf, writtenOf, wrongCount};
+ghost use Rattle.unescape.specs.Bodies.{Writable, bodyOf, measuredOf, readOf, refusedAt, unescapeOf, writtenOf, wrongCount};
 
 // How many bytes were written, or why none.
 pub enum Unescaped {
@@ -30,10 +35,9 @@ pub enum Unescaped {
     Refused { refusal: Refusal },
 }
 
-// How many items a body gives and how many bytes they take, or its first fault.
+// How many bytes the items of a body take, or its first fault.
 enum Measured {
     Whole {
-        items: usize,
         count: usize,
     },
     Stopped {
@@ -41,29 +45,6 @@ enum Measured {
         start: usize,
         end: usize,
     },
-}
-
-// ASCII and no backslash: one byte that stands for itself in every form. Asked first, since most scalars are such.
-fn is_itself(v: u32) -> bool
-    ensures { λ r. ⌜ r ≡ itselfOf v ⌝ }
-{
-    if 0x7f < v {
-        return false;
-    }
-    v != 0x5c
-}
-
-// Whether a scalar stands for itself: no backslash, and none above U+007F in bytes. Asked before `item_at`, which is too long to be inlined.
-fn stands(form: Form, v: u32) -> bool
-    ensures { λ r. ⌜ r ≡ standsOf form v ⌝ }
-{
-    if v == 0x5c {
-        return false;
-    }
-    if v <= 0x7f {
-        return true;
-    }
-    !is_bytes(form)
 }
 
 // The bytes of an item.
@@ -78,33 +59,32 @@ fn item_bytes(form: Form, item: u32) -> Encoded
     encoding::encode(item)
 }
 
+// Run by run, and what stands between two runs; a short escape first, since `item_at` is too long to be inlined.
 fn measure(s: &[u8], form: Form) -> Measured
-    ensures { λ r. ⌜ r ≡ measuredOf form 0 0 (bodyOf form 0 (rest (now (s .entry)) 0) 0) ⌝ }
+    requires { ⌜ soundTo (now s) ≡ length (now s) ⌝ }
+    ensures { λ r. ⌜ r ≡ measuredOf form 0 (bodyOf form 0 (rest (now (s .entry)) 0) 0) ⌝ }
 {
+    let bytes = is_bytes(form);
+    let template = is_template(form);
     let mut at: usize = 0;
-    let mut items: usize = 0;
     let mut count: usize = 0;
     loop {
-        let Scalar::One { value, next } = text::scalar_at(s, at) else {
-            return Measured::Whole { items, count };
-        };
-        if is_itself(value) {
-            items = items + 1;
+        let p = run_end(s, at, bytes);
+        count = count + (p - at);
+        let short = short_at(s, p, template);
+        if short <= 0x7f {
             count = count + 1;
-            at = next;
-        } else if stands(form, value) {
-            let encoded = item_bytes(form, value);
-            items = items + 1;
-            count = count + encoded.len;
-            at = next;
+            at = p + 2;
         } else {
+            let Scalar::One { value, next } = text::scalar_at(s, p) else {
+                return Measured::Whole { count };
+            };
             match item_at(s, form, value, next) {
                 Escape::Item {
                     value: item,
                     next: end,
                 } => {
                     let encoded = item_bytes(form, item);
-                    items = items + 1;
                     count = count + encoded.len;
                     at = end;
                 }
@@ -114,7 +94,7 @@ fn measure(s: &[u8], form: Form) -> Measured
                 Escape::Bad { number, next: end } => {
                     return Measured::Stopped {
                         number,
-                        start: at,
+                        start: p,
                         end,
                     };
                 }
@@ -146,29 +126,46 @@ fn put(out: &mut [u8], n: usize, bytes: &[u8; 4], len: usize)
     out[n + 3] = bytes[3];
 }
 
-// The items up to the first fault, written from the first byte on.
+// The bytes before the next backslash, to the place n on; the backslash's place, or the end.
+fn copy_run(s: &[u8], at: usize, out: &mut [u8], n: usize) -> usize
+    requires { ⌜ n + length (bareOf (drop at (now s))) ≤ length (now out) ⌝ }
+    ensures end { λ r. ⌜ r ≡ at + length (bareOf (drop at (now (s .entry)))) ⌝ }
+    ensures bytes { λ _. ⌜ now (out .exit) ≡ sets (now (out .entry)) n (bareOf (drop at (now (s .entry)))) ⌝ }
+{
+    let mut p = at;
+    let mut m = n;
+    while p < s.len() {
+        let b = s[p];
+        if b == 0x5c {
+            return p;
+        }
+        out[m] = b;
+        p = p + 1;
+        m = m + 1;
+    }
+    p
+}
+
+// The items of a body without a fault, written from the first byte on: so what stands before a backslash is copied in every form.
 fn write_items(s: &[u8], form: Form, out: &mut [u8])
-    requires { ⌜ length (writtenOf form (bodyOf form 0 (rest (now s) 0) 0 .items)) ≤ length (now out) ⌝ }
+    requires { ⌜ Writable form (now s) (length (now out)) ⌝ }
     ensures { λ _. ⌜ now (out .exit) ≡ sets (now (out .entry)) 0 (writtenOf form (bodyOf form 0 (rest (now (s .entry)) 0) 0 .items)) ⌝ }
 {
+    let template = is_template(form);
     let mut at: usize = 0;
     let mut n: usize = 0;
     loop {
-        let Scalar::One { value, next } = text::scalar_at(s, at) else {
-            return;
-        };
-        if is_itself(value) {
-            out[n] = value as u8;
+        let p = copy_run(s, at, out, n);
+        n = n + (p - at);
+        let short = short_at(s, p, template);
+        if short <= 0x7f {
+            out[n] = short;
             n = n + 1;
-            at = next;
-        } else if stands(form, value) {
-            let encoded = item_bytes(form, value);
-            let len = encoded.len;
-            let bytes = encoded.bytes;
-            put(out, n, &bytes, len);
-            n = n + len;
-            at = next;
+            at = p + 2;
         } else {
+            let Scalar::One { value, next } = text::scalar_at(s, p) else {
+                return;
+            };
             match item_at(s, form, value, next) {
                 Escape::Item {
                     value: item,
@@ -204,22 +201,54 @@ fn refuse(number: u32, start: usize, end: usize) -> Unescaped
     }
 }
 
-// A char or byte body that gives other than one item.
-fn wrong_count(form: Form, items: usize) -> bool
-    ensures { λ r. ⌜ r ≡ wrongCount form items ⌝ }
+fn count_items(s: &[u8], form: Form) -> usize
+    ensures { λ r. ⌜ r ≡ length (bodyOf form 0 (rest (now (s .entry)) 0) 0 .items) ⌝ }
 {
-    if is_single(form) { items != 1 } else { false }
+    let mut at: usize = 0;
+    let mut n: usize = 0;
+    loop {
+        let Scalar::One { value, next } = text::scalar_at(s, at) else {
+            return n;
+        };
+        match item_at(s, form, value, next) {
+            Escape::Item {
+                value: _,
+                next: end,
+            } => {
+                n = n + 1;
+                at = end;
+            }
+            Escape::Skipped { next: end } => {
+                at = end;
+            }
+            Escape::Bad { number: _, next: _ } => {
+                return n;
+            }
+        }
+    }
+}
+
+// A char or byte body that gives other than one item. Only of these the items are counted.
+fn wrong_count(s: &[u8], form: Form) -> bool
+    ensures { λ r. ⌜ r ≡ wrongCount form (length (bodyOf form 0 (rest (now (s .entry)) 0) 0 .items)) ⌝ }
+{
+    if is_single(form) {
+        count_items(s, form) != 1
+    } else {
+        false
+    }
 }
 
 // A body that is well-formed.
 fn unescape_sound(body: &[u8], form: Form, out: &mut [u8]) -> Unescaped
+    requires { ⌜ soundTo (now body) ≡ length (now body) ⌝ }
     ensures answer { λ r. ⌜ r ≡ readOf form (now (body .entry)) (length (now (out .entry))) .answer ⌝ }
     ensures bytes { λ _. ⌜ now (out .exit) ≡ sets (now (out .entry)) 0 (readOf form (now (body .entry)) (length (now (out .entry))) .bytes) ⌝ }
 {
     match measure(body, form) {
         Measured::Stopped { number, start, end } => refuse(number, start, end),
-        Measured::Whole { items, count } => {
-            if wrong_count(form, items) {
+        Measured::Whole { count } => {
+            if wrong_count(body, form) {
                 return refuse(NOT_ONE_ITEM, 0, body.len());
             }
             if out.len() < count {
