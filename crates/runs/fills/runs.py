@@ -25,17 +25,43 @@ fill('run_end', {
     'returns': '@low-end .ensures ∙ ap (λ (b : Bool). $at$ + length (runOf b (drop $at$ $s$))) (sym (@if1 .taken))',
     'returns-2': '@bare-end .ensures ∙ ap (λ (b : Bool). $at$ + length (runOf b (drop $at$ $s$))) (sym (@if1 .left))'},
     macros=S)
-T = {'m': '(@Start .args .template)', 'v': '(@Start .args .v)'}
+fill('escaped_at', {
+    'returns': 'escaped-end _ _ (@if1 .taken)',
+    'returns-2': 'escaped-other _ _ (@if2 .taken)',
+    'returns-3': '@byte-at .ensures ∙ escaped-here _ _ (@if2 .left)'})
 fill('short_escape', {
-    **{'returns' + ('' if k == 1 else f'-{k}'): ('shortOf', f'sym (ap (shortOf $m$) (@match .keys{k}))') for k in range(1, 8)},
-    'returns-8': ('shortOf', 'sym (ap (shortOf $m$) (@match .keys8) ∙ rw (@if1 .taken))'),
-    'returns-9': ('shortOf', 'sym (ap (shortOf $m$) (@match .keys8) ∙ rw (@if1 .left))'),
-    'returns-10': ('shortOf', 'sym (ap (shortOf $m$) (@match .keys9) ∙ rw (@if2 .taken))'),
-    'returns-11': ('shortOf', 'sym (ap (shortOf $m$) (@match .keys9) ∙ rw (@if2 .left))'),
-    'returns-12': 'sym (no-short $m$ $v$ ' + keys(9) + ')'},
-    macros=T)
-fill('short_at', {
-    'returns': 'short-end _ _ _ (@if1 .taken)',
-    'returns-2': 'short-other _ _ _ (@if2 .taken)',
-    'returns-3': '@short-escape .ensures ∙ ap (shortOf (@Start .args .template)) (@byte-at .ensures) ∙ short-second _ _ _ $stands$'},
-    macros=dict(S, stands='(@if2 .left)'))
+    **{'returns' + ('' if k == 1 else f'-{k}'): ('shortOf', f'sym (ap shortOf (@match .keys{k}))') for k in range(1, 10)},
+    'returns-10': 'sym (no-short (@Start .args .v) ' + keys(9) + ')'})
+fill('hex_at', {
+    **{'returns' + k: '(nothing _ _, omega arith)' for k in ('', '-2', '-3', '-4', '-5')},
+    'mul-x': 'omega (arith, hex-small (@number .result), @hex-value .ensures)', 'add-x': 'omega (arith, $small$)', 'mul-result': 'omega (arith, $small$)', 'add-result': 'omega (arith, $small$)',
+    'returns-6': '(hex-packed $s$ $at$ _ _ _ _ _ (@number .ensures) (@number2 .ensures) (omega arith) $a$ $b$ (@hex-value .ensures) (@hex-value2 .ensures) refl, omega arith)'},
+    macros=dict(S, a='(sym (@is-ascii-hexdigit .ensures) ∙ not-false _ (@if3 .left))', b='(sym (@is-ascii-hexdigit2 .ensures) ∙ not-false _ (@if4 .left))',
+                small='hex-small (@number .result), hex-small (@number2 .result), @hex-value .ensures, @hex-value2 .ensures'))
+fill('unicode_closed', {
+    **{'returns' + k: 'λ h. absurd (omega arith)' for k in ('', '-2', '-3')},
+    **{k: 'omega (arith, scalar-most (@Start .args .x) $scalar$)' for k in ('mul-result', 'add-result', 'add-result-2')},
+    'returns-4': 'λ h. record { digits = not-false _ (@if1 .left); scalar = $scalar$; item = omega arith; place = omega arith }'},
+    macros={'scalar': '(sym (@is-scalar .ensures) ∙ not-false _ (@if3 .left))'})
+fill('unicode_at', {
+    **{'returns' + k: 'nothing _ _' for k in ('', '-2', '-3', '-5', '-6', '-7')},
+    'Inv-loop': 'Digits s at left i some x', 'μ-loop': 'left - i',
+    'loop-holds': 'digits-first _ _ _ (omega arith) (omega arith) (@if3 .left)',
+    'shared-slice-read-number': 'omega (arith, @loop .inv .inside)',
+    'returns-4': 'digits-packed $digit$ _ (@if4 .taken) (@unicode-closed .ensures)',
+    'add-x': 'omega (arith, hex-small (@number .result), @hex-value .ensures)',
+    'loop-again': 'digits-next $digit$ (@if4 .left) (sym (@is-ascii-hexdigit .ensures) ∙ not-false _ (@if5 .left)) (@if6 .left) _ (@hex-value .ensures)'},
+    macros=dict(S, digit='$s$ $at$ _ _ _ _ (@loop .inv) (@loop-test .taken) _ (@number .ensures)'))
+fill('long_at', {
+    'returns': 'byte-hex _ _ _ _ _ (@escaped-at .ensures) $bytes$ (@if2 .taken) (@hex-at .ensures .0)',
+    'returns-2': 'nothing _ _',
+    'returns-3': 'char-hex _ _ _ _ _ (@escaped-at .ensures) $text$ (@if3 .taken) (@hex-at2 .ensures .0) (@hex-at2 .ensures .1)',
+    'returns-4': 'char-unicode _ _ _ _ _ (@escaped-at .ensures) $text$ (@if4 .taken) (@unicode-at .ensures)',
+    'returns-5': 'nothing _ _'},
+    macros=dict(S, bytes='(sym (@is-bytes .ensures) ∙ @if1 .taken)', text='(sym (@is-bytes .ensures) ∙ @if1 .left)'))
+fill('begin_at', {
+    'add-t11': 'omega (arith, begins-room _ _ _ _ _ (@long-at .ensures (@if1 .taken)))',
+    'returns': '@long-at .ensures (@if1 .taken)',
+    'returns-2': 'begins-end _ _ _ (step-none _ _ (sym (@scalar-at .ensures) ∙ @enum-told .given .1))',
+    'returns-3': '@item-at .ensures ∙ begins-item _ _ _ _ _ (step-one _ _ _ _ (sym (@scalar-at .ensures) ∙ @value .given .1))'},
+    macros=S)

@@ -1,5 +1,5 @@
 -- An escape of two bytes is the item that document 01 gives it. Assumes nothing.
-use Prim.Native.Nat.{ℕ, _+_, _≤_, _<_}
+use Prim.Native.Nat.{ℕ, _+_, _%_, _≤_, _<_}
 use mathlib.Core.Path.{_≡_, refl, sym, ap, _∙_, subst}
 use mathlib.Core.List.{List, _∷_}
 use mathlib.Core.Bool.{Bool, true, false}
@@ -13,108 +13,103 @@ use Rattle.items.specs.Items.{isTemplate, itemOf}
 use Rattle.items.specs.declared.Form.{Form}
 use Rattle.items.specs.declared.Form.the-variants.{Byte, ByteText, Char, Template, Text}
 use Rattle.laws.proofs.Cases.{never, split, split-eq, split-le}
-use Rattle.runs.specs.Runs.{shortAt, shortOf}
+use Rattle.runs.specs.Runs.{escapedAt, limitOf, shortOf}
 use Rattle.text.proofs.Decode.{Step, step-ascii}
 use Rattle.text.specs.Utf8.{rest, width}
 
 -- a byte that is not in the table
-pub no-short : (m : Bool) (v : ℕ) → (v ≡ 0x27 → ⊥) → (v ≡ 0x22 → ⊥) → (v ≡ 0x6e → ⊥) → (v ≡ 0x72 → ⊥) → (v ≡ 0x74 → ⊥) → (v ≡ 0x5c → ⊥) → (v ≡ 0x30 → ⊥) → (v ≡ 0x24 → ⊥) → (v ≡ 0x60 → ⊥) → shortOf m v ≡ 0x80
+pub no-short : (v : ℕ) → (v ≡ 0x27 → ⊥) → (v ≡ 0x22 → ⊥) → (v ≡ 0x6e → ⊥) → (v ≡ 0x72 → ⊥) → (v ≡ 0x74 → ⊥) → (v ≡ 0x5c → ⊥) → (v ≡ 0x30 → ⊥) → (v ≡ 0x24 → ⊥) → (v ≡ 0x60 → ⊥) → shortOf v ≡ 0xff
 unfolding shortOf
-no-short m v a b c d e f g h i =
+no-short v a b c d e f g h i =
     rw (ne-eqb v 0x27 a, ne-eqb v 0x22 b, ne-eqb v 0x6e c, ne-eqb v 0x72 d, ne-eqb v 0x74 e, ne-eqb v 0x5c f, ne-eqb v 0x30 g, ne-eqb v 0x24 h, ne-eqb v 0x60 i)
 
-module _ (v p x : ℕ) (cs : List ℕ) (l : x ≤ 0x7f) where
-  -- by the byte k that v is: what the rule gives of it, and what the table has for it
-  by-table : (go : ℕ → Escape) (table : ℕ → ℕ) (k y : ℕ) → x ≡ table v → v ≡ k → go k ≡ Item y p → table k ≡ y → go v ≡ Item x p
-  by-table go table k y q h e f = ap go h ∙ e ∙ ap (λ (z : ℕ). Item z p) (sym (q ∙ ap table h ∙ f))
+limit-most : (m : Bool) → limitOf m ≤ 0xff
+limit-most true = omega arith
+limit-most false = omega arith
 
-  short-none : (m : Bool) → x ≡ shortOf m v → shortOf m v ≡ 0x80 → ⊥
-  short-none m q h = omega arith
-
-  -- the table's rows: the seven that all forms have, then the two of templates, then none
-  rows : (m : Bool) (go : ℕ → Escape) → x ≡ shortOf m v
+module _ (v p x : ℕ) (cs : List ℕ) (q : x ≡ shortOf v) (m : Bool) (l : x < limitOf m) where
+  -- the table's rows, by the byte that v is: the seven that all forms have, then the two of templates, then none
+  rows : (go : ℕ → Escape)
       → go 0x27 ≡ Item 0x27 p → go 0x22 ≡ Item 0x22 p → go 0x6e ≡ Item 0x0a p → go 0x72 ≡ Item 0x0d p → go 0x74 ≡ Item 0x09 p → go 0x5c ≡ Item 0x5c p → go 0x30 ≡ Item 0x00 p
-      → (m ≡ true → go 0x24 ≡ Item 0x24 p) → (m ≡ true → go 0x60 ≡ Item 0x60 p) → go v ≡ Item x p
+      → (m ≡ true → go 0x24 ≡ Item 0x24 p) → (m ≡ true → go 0x60 ≡ Item 0x60 p) → go v ≡ Item (x % 128) p
   unfolding shortOf
-  rows m go q a b c d e f g i j =
-      split-eq v 0x27 (λ h. by-table go (shortOf m) 0x27 0x27 q h a refl)
-      (λ h1. split-eq v 0x22 (λ h. by-table go (shortOf m) 0x22 0x22 q h b refl)
-      (λ h2. split-eq v 0x6e (λ h. by-table go (shortOf m) 0x6e 0x0a q h c refl)
-      (λ h3. split-eq v 0x72 (λ h. by-table go (shortOf m) 0x72 0x0d q h d refl)
-      (λ h4. split-eq v 0x74 (λ h. by-table go (shortOf m) 0x74 0x09 q h e refl)
-      (λ h5. split-eq v 0x5c (λ h. by-table go (shortOf m) 0x5c 0x5c q h f refl)
-      (λ h6. split-eq v 0x30 (λ h. by-table go (shortOf m) 0x30 0x00 q h g refl)
-      (λ h7. split-eq v 0x24
-      (λ h. split m (λ t. by-table go (shortOf m) 0x24 0x24 q h (i t) (rw t)) (λ t. absurd (short-none m q (ap (shortOf m) h ∙ rw t))))
-      (λ h8. split-eq v 0x60
-      (λ h. split m (λ t. by-table go (shortOf m) 0x60 0x60 q h (j t) (rw t)) (λ t. absurd (short-none m q (ap (shortOf m) h ∙ rw t))))
-      (λ h9. absurd (short-none m q (no-short m v h1 h2 h3 h4 h5 h6 h7 h8 h9)))))))))))
+  rows go a b c d e f g i j =
+      split-eq v 0x27 (λ h. row 0x27 h a)
+      (λ h1. split-eq v 0x22 (λ h. row 0x22 h b)
+      (λ h2. split-eq v 0x6e (λ h. row 0x6e h c)
+      (λ h3. split-eq v 0x72 (λ h. row 0x72 h d)
+      (λ h4. split-eq v 0x74 (λ h. row 0x74 h e)
+      (λ h5. split-eq v 0x5c (λ h. row 0x5c h f)
+      (λ h6. split-eq v 0x30 (λ h. row 0x30 h g)
+      (λ h7. split-eq v 0x24 (λ h. split m (λ t. row 0x24 h (i t)) (λ t. absurd (few t (ap shortOf h) (omega arith))))
+      (λ h8. split-eq v 0x60 (λ h. split m (λ t. row 0x60 h (j t)) (λ t. absurd (few t (ap shortOf h) (omega arith))))
+      (λ h9. absurd (omega (arith, no-short v h1 h2 h3 h4 h5 h6 h7 h8 h9, limit-most m)))))))))))
+    where
+      row : (k : ℕ) → v ≡ k → go k ≡ Item (shortOf k % 128) p → go v ≡ Item (x % 128) p
+      row k h r = ap go h ∙ r ∙ ap (λ (z : ℕ). Item (z % 128) p) (sym (q ∙ ap shortOf h))
 
-  short-byte : (lines : Bool) → x ≡ shortOf false v → byteTurn lines v cs p ≡ Item x p
+      few : {y : ℕ} → m ≡ false → shortOf v ≡ y → 0x80 ≤ y → ⊥
+      few t h w = let z = ap limitOf t in omega arith
+
+  short-byte : (lines : Bool) → m ≡ false → byteTurn lines v cs p ≡ Item (x % 128) p
   unfolding byteTurn sharedOf
-  short-byte lines q = rows false (λ k. byteTurn lines k cs p) q refl refl refl refl refl refl refl (λ h. never (cc)) (λ h. never (cc))
+  short-byte lines h = rows (λ k. byteTurn lines k cs p) refl refl refl refl refl refl refl (λ t. never (cc)) (λ t. never (cc))
 
-  short-char : (m lines : Bool) → x ≡ shortOf m v → charTurn m lines v cs p ≡ Item x p
+  short-char : (lines : Bool) → charTurn m lines v cs p ≡ Item (x % 128) p
   unfolding charTurn sharedOf
-  short-char m lines q = rows m (λ k. charTurn m lines k cs p) q refl refl refl refl refl refl refl (λ h. rw h) (λ h. rw h)
+  short-char lines = rows (λ k. charTurn m lines k cs p) refl refl refl refl refl refl refl (λ t. rw t) (λ t. rw t)
 
-pub short-item : (form : Form) (v x : ℕ) (cs : List ℕ) (p : ℕ) → x ≡ shortOf (isTemplate form) v → x ≤ 0x7f → Item x (p + width v) ≡ itemOf form 0x5c (v ∷ cs) p
+short-item : (form : Form) (v x : ℕ) (cs : List ℕ) (p : ℕ) → x ≡ shortOf v → x < limitOf (isTemplate form) → Item (x % 128) (p + width v) ≡ itemOf form 0x5c (v ∷ cs) p
 unfolding itemOf byteEscape charEscape
-short-item Text v x cs p q l = sym (short-char v (p + width v) x cs l false true q)
-short-item Template v x cs p q l = sym (short-char v (p + width v) x cs l true true q)
-short-item Char v x cs p q l = sym (short-char v (p + width v) x cs l false false q)
-short-item ByteText v x cs p q l = sym (short-byte v (p + width v) x cs l true q)
-short-item Byte v x cs p q l = sym (short-byte v (p + width v) x cs l false q)
+short-item Text v x cs p q l = sym (short-char v (p + width v) x cs q false l true)
+short-item Template v x cs p q l = sym (short-char v (p + width v) x cs q true l true)
+short-item Char v x cs p q l = sym (short-char v (p + width v) x cs q false l false)
+short-item ByteText v x cs p q l = sym (short-byte v (p + width v) x cs q false l true refl)
+short-item Byte v x cs p q l = sym (short-byte v (p + width v) x cs q false l false refl)
 
--- a byte that is not 0 stands in the list
-there : (s : List ℕ) (i : ℕ) → (getD s i 0 ≡ 0 → ⊥) → i < length s
-there s i h = split-le (length s) i (λ l. absurd (h (List·getD-eq-default s 0 l))) (λ l. l)
+module _ (s : List ℕ) (at : ℕ) where
+  pub escaped-other : (getD s at 0 ≡ 0x5c → ⊥) → 0 ≡ escapedAt s at
+  unfolding escapedAt
+  escaped-other h = rw (ne-eqb (getD s at 0) 0x5c h)
 
-short-zero : (m : Bool) → shortOf m 0 ≡ 0x80
-unfolding shortOf
-short-zero m = refl
+  pub escaped-end : length s ≤ at → 0 ≡ escapedAt s at
+  escaped-end h = escaped-other (λ e. omega (arith, List·getD-eq-default s 0 h))
 
--- no byte above 0x7f is in the table
-short-low : (m : Bool) (v : ℕ) → shortOf m v ≤ 0x7f → v ≤ 0x7f
-short-low m v h =
-    split-le v 0x7f (λ l. l)
-    (λ l. absurd (let z = no-short m v (λ e. omega arith) (λ e. omega arith) (λ e. omega arith) (λ e. omega arith) (λ e. omega arith) (λ e. omega arith) (λ e. omega arith) (λ e. omega arith) (λ e. omega arith) in omega arith))
+  pub escaped-here : getD s at 0 ≡ 0x5c → getD s (at + 1) 0 ≡ escapedAt s at
+  unfolding escapedAt
+  escaped-here h = rw (eq-eqb (getD s at 0) 0x5c h)
 
-module _ (m : Bool) (s : List ℕ) (at : ℕ) where
-  pub short-other : (getD s at 0 ≡ 0x5c → ⊥) → 0x80 ≡ shortAt m s at
-  unfolding shortAt
-  short-other h = rw (ne-eqb (getD s at 0) 0x5c h)
+  -- a byte that is found there is ASCII or not, and both stand in the list
+  pub escaped-inv : (v : ℕ) → v ≡ escapedAt s at → (v ≡ 0 → ⊥) → (getD s at 0 ≡ 0x5c) × (v ≡ getD s (at + 1) 0) × (at + 1 < length s)
+  escaped-inv v q h =
+      split-eq (getD s at 0) 0x5c
+      (λ e.
+      let f = q ∙ sym (escaped-here e) in
+      (e, f, split-le (length s) (at + 1) (λ l. absurd (h (f ∙ List·getD-eq-default s 0 l))) (λ l. l)))
+      (λ e. absurd (h (q ∙ sym (escaped-other e))))
 
-  pub short-end : length s ≤ at → 0x80 ≡ shortAt m s at
-  short-end h = short-other (λ e. omega (arith, List·getD-eq-default s 0 h))
+-- no byte above 0x7f is in the table, nor 0
+short-low : (v : ℕ) → shortOf v < 0xff → (v ≤ 0x7f) × (v ≡ 0 → ⊥)
+short-low v h = (
+  split-le v 0x7f (λ l. l)
+      (λ l. absurd (let z = no-short v (λ e. omega arith) (λ e. omega arith) (λ e. omega arith) (λ e. omega arith) (λ e. omega arith) (λ e. omega arith) (λ e. omega arith) (λ e. omega arith) (λ e. omega arith) in omega arith)),
+  λ k. let z = no-short v (λ e. omega arith) (λ e. omega arith) (λ e. omega arith) (λ e. omega arith) (λ e. omega arith) (λ e. omega arith) (λ e. omega arith) (λ e. omega arith) (λ e. omega arith) in omega arith,
+)
 
-  pub short-second : getD s at 0 ≡ 0x5c → shortOf m (getD s (at + 1) 0) ≡ shortAt m s at
-  unfolding shortAt
-  short-second h = rw (eq-eqb (getD s at 0) 0x5c h)
-
--- at a place of a source: a backslash, and what its escape gives
-pub record Short (form : Form) (s : List ℕ) (p x : ℕ) : Type 0 where
+-- at a place of a source: a backslash, and the item that begins there
+pub record Short (form : Form) (s : List ℕ) (p x n : ℕ) : Type 0 where
   pub step : Step s p 0x5c (p + 1)
-  pub item : Item x (p + 2) ≡ itemOf form 0x5c (rest s (p + 1)) (p + 1)
+  pub item : Item x n ≡ itemOf form 0x5c (rest s (p + 1)) (p + 1)
 
-module _ (form : Form) (s : List ℕ) (p x : ℕ) (q : x ≡ shortAt (isTemplate form) s p) (l : x ≤ 0x7f) where
-  backslash : (getD s p 0 ≡ 0x5c) × (x ≡ shortOf (isTemplate form) (getD s (p + 1) 0))
-  unfolding shortAt
-  backslash =
-      split-eq (getD s p 0) 0x5c (λ h. (h, (rw (eq-eqb (getD s p 0) 0x5c h) at q)))
-      (λ h. absurd (let z = (rw (ne-eqb (getD s p 0) 0x5c h) at q) in omega arith))
-
-  pub short-here : Short form s p x
-  short-here =
-      let e = backslash .0 in
-      let v = getD s (p + 1) 0 in
-      let f = backslash .1 in
-      let w : v ≤ 0x7f = short-low (isTemplate form) v (omega arith) in
-      let h : p + 1 < length s = there s (p + 1) (λ z. omega (arith, ap (shortOf (isTemplate form)) z, short-zero (isTemplate form))) in
-      let second = step-ascii s (p + 1) h w in
-      let two : p + 1 + width v ≡ p + 2 = omega (arith, second .next) in
-      record {
-        step = subst (λ (k : ℕ). Step s p k (p + 1)) e (step-ascii s p (omega arith) (omega arith));
-        item = ap (Item x) (sym two) ∙ short-item form v x (rest s (p + 1 + 1)) (p + 1) f l
-            ∙ ap (λ (cs : List ℕ). itemOf form 0x5c cs (p + 1)) (sym (second .here));
-      }
+pub short-here : (form : Form) (s : List ℕ) (p v x : ℕ) → v ≡ escapedAt s p → x ≡ shortOf v → x < limitOf (isTemplate form) → Short form s p (x % 128) (p + 2)
+short-here form s p v x q r l =
+    let low = short-low v (omega (arith, limit-most (isTemplate form))) in
+    let e = escaped-inv s p v q (low .1) in
+    let w : getD s (p + 1) 0 ≤ 0x7f = omega (arith, low .0, e .1) in
+    let second = step-ascii s (p + 1) (e .2) w in
+    let two : p + 1 + width (getD s (p + 1) 0) ≡ p + 2 = omega (arith, second .next) in
+    record {
+      step = subst (λ (k : ℕ). Step s p k (p + 1)) (e .0) (step-ascii s p (omega (arith, e .2)) (omega (arith, e .0)));
+      item = ap (Item (x % 128)) (sym two) ∙ short-item form (getD s (p + 1) 0) x (rest s (p + 1 + 1)) (p + 1) (r ∙ ap shortOf (e .1)) l
+          ∙ ap (λ (cs : List ℕ). itemOf form 0x5c cs (p + 1)) (sym (second .here));
+    }

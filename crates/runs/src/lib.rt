@@ -1,9 +1,18 @@
-// Fast ways through a body: runs of bytes that stand for themselves, and the escapes of two bytes, by value. Proved equal to the definitions in specs/.
+// Fast ways through a body: runs of bytes that stand for themselves, and escapes by value. Proved equal to the definitions in specs/.
+use digits::hex_value;
+use digits::is_ascii_hexdigit;
+use escapes::Escape;
+use items::Form;
+use items::is_bytes;
+use items::item_at;
+use text::Scalar;
 use text::byte_at;
-ghost use Prim.Native.Nat.{_+_};
+ghost use Prim.Native.Nat.{_+_, _/_, _≤_};
 ghost use mathlib.Core.Path.{_≡_};
 ghost use lib.ListN.{drop, length};
-ghost use Rattle.runs.specs.Runs.{asciiOf, bareOf, runOf, shortAt, shortOf};
+ghost use Rattle.escapes.specs.Escapes.{hexOf, unicodeOf};
+ghost use Rattle.runs.specs.Runs.{Closed, Packed, asciiOf, bareOf, beginsOf, escapedAt, limitOf, runOf, shortOf};
+ghost use Rattle.text.specs.Utf8.{rest};
 
 // The place of the first backslash, or the end. One test a loop: of two the compiler makes longer code than two loops have.
 fn bare_end(s: &[u8], at: usize) -> usize
@@ -45,9 +54,23 @@ pub fn run_end(s: &[u8], at: usize, bytes: bool) -> usize
     end
 }
 
-// What a byte behind a backslash stands for; 0x80: the escape is none of two bytes.
-fn short_escape(v: u8, template: bool) -> u8
-    ensures { λ r. ⌜ r ≡ shortOf template v ⌝ }
+// The byte behind the backslash at a place; 0: there is no backslash, or nothing behind it.
+pub fn escaped_at(s: &[u8], at: usize) -> u8
+    ensures { λ r. ⌜ r ≡ escapedAt (now (s .entry)) at ⌝ }
+{
+    if s.len() <= at {
+        return 0;
+    }
+    if s[at] != 0x5c {
+        return 0;
+    }
+    byte_at(s, at + 1)
+}
+
+// What a byte behind a backslash stands for, in seven bits: 0x80 more where only templates have it; 0xff: the escape is none of two bytes.
+// Constants only, so that the compiler makes a table of them.
+pub fn short_escape(v: u8) -> u8
+    ensures { λ r. ⌜ r ≡ shortOf v ⌝ }
 {
     match v {
         0x27 => 0x27,
@@ -57,21 +80,134 @@ fn short_escape(v: u8, template: bool) -> u8
         0x74 => 0x09,
         0x5c => 0x5c,
         0x30 => 0x00,
-        0x24 => if template { 0x24 } else { 0x80 },
-        0x60 => if template { 0x60 } else { 0x80 },
-        _ => 0x80,
+        0x24 => 0xa4,
+        0x60 => 0xe0,
+        _ => 0xff,
     }
 }
 
-// What the two bytes at a place stand for; 0x80: they are no escape of two bytes.
-pub fn short_at(s: &[u8], at: usize, template: bool) -> u8
-    ensures { λ r. ⌜ r ≡ shortAt template (now (s .entry)) at ⌝ }
+// What `short_escape` answers below this is an escape.
+pub fn short_limit(template: bool) -> u8
+    ensures { λ r. ⌜ r ≡ limitOf template ⌝ }
+{
+    if template { 0xff } else { 0x80 }
+}
+
+fn number(b: u8) -> u32
+    ensures { λ r. ⌜ r ≡ b ⌝ }
+{
+    b as u32
+}
+
+// The escape at a place as \x with two hex digits that stand for no more than `most`, in one number; 0: it is none.
+fn hex_at(s: &[u8], at: usize, most: u32) -> u32
+    ensures { λ r. ⌜ Packed at (hexOf (rest (now (s .entry)) (at + 2)) (at + 2)) r × (r / 16 ≤ most) ⌝ }
 {
     if s.len() <= at {
-        return 0x80;
+        return 0;
     }
-    if s[at] != 0x5c {
-        return 0x80;
+    if s.len() - at < 4 {
+        return 0;
     }
-    short_escape(byte_at(s, at + 1), template)
+    let a = number(s[at + 2]);
+    if !is_ascii_hexdigit(a) {
+        return 0;
+    }
+    let b = number(s[at + 3]);
+    if !is_ascii_hexdigit(b) {
+        return 0;
+    }
+    let x = hex_value(a) * 16 + hex_value(b);
+    if most < x {
+        return 0;
+    }
+    x * 16 + 4
+}
+
+// The escape at a place as \u with a scalar in braces, in one number; 0: it is none, or takes more than 15 bytes.
+fn unicode_at(s: &[u8], at: usize) -> u32
+    ensures { λ r. ⌜ Packed at (unicodeOf (rest (now (s .entry)) (at + 2)) (at + 2)) r ⌝ }
+{
+    if s.len() <= at {
+        return 0;
+    }
+    let left = s.len() - at;
+    if left < 3 {
+        return 0;
+    }
+    if s[at + 2] != 0x7b {
+        return 0;
+    }
+    let mut i: usize = 3;
+    let mut some = false;
+    let mut x: u32 = 0;
+    while i < left {
+        let v = number(s[at + i]);
+        if v == 0x7d {
+            return unicode_closed(some, x, i);
+        }
+        if !is_ascii_hexdigit(v) {
+            return 0;
+        }
+        if 0xfffff < x {
+            return 0;
+        }
+        some = true;
+        x = x * 16 + hex_value(v);
+        i = i + 1;
+    }
+    0
+}
+
+// The number x behind its digits, of which there was one or not, with the brace i bytes behind the backslash.
+fn unicode_closed(some: bool, x: u32, i: usize) -> u32
+    ensures { λ r. ⌜ Closed some x i r ⌝ }
+{
+    if !some {
+        return 0;
+    }
+    if 14 < i {
+        return 0;
+    }
+    if !encoding::is_scalar(x) {
+        return 0;
+    }
+    x * 16 + (i as u32) + 1
+}
+
+// What \x or \u at a place gives, in one number; 0: it is neither of them, or a fault.
+fn long_at(s: &[u8], at: usize, form: Form) -> u32
+    ensures { λ r. ⌜ Packed at (beginsOf form (rest (now (s .entry)) at) at) r ⌝ }
+{
+    let v = escaped_at(s, at);
+    if is_bytes(form) {
+        if v == 0x78 {
+            return hex_at(s, at, 0xff);
+        }
+        return 0;
+    }
+    if v == 0x78 {
+        return hex_at(s, at, 0x7f);
+    }
+    if v == 0x75 {
+        return unicode_at(s, at);
+    }
+    0
+}
+
+// What begins at a place. By value as far as that goes: `item_at` answers through memory, and so do all that it calls.
+pub fn begin_at(s: &[u8], at: usize, form: Form) -> Escape
+    ensures { λ r. ⌜ r ≡ beginsOf form (rest (now (s .entry)) at) at ⌝ }
+{
+    let long = long_at(s, at, form);
+    if 0 < long {
+        return Escape::Item {
+            value: long / 16,
+            next: at + (long % 16) as usize,
+        };
+    }
+    let Scalar::One { value, next } = text::scalar_at(s, at) else {
+        return Escape::Skipped { next: at };
+    };
+    item_at(s, form, value, next)
 }

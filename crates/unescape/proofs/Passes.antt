@@ -1,7 +1,8 @@
 -- What the loops keep: the measuring one, the writing one with its copies, and the count of items. Assumes nothing.
-use Prim.Native.Nat.{ℕ, _+_, _≤_, _<_}
+use Prim.Native.Nat.{ℕ, _+_, _-_, _≤_, _<_}
 use mathlib.Core.Path.{_≡_, refl, sym, ap, ap₂, _∙_, subst}
 use mathlib.Core.List.{List, [], _∷_, _++_}
+use mathlib.Core.Bool.{Bool}
 use native.Mathlib.Omega.{arith}
 use native.Mathlib.Numerals.{add-one}
 use lib.Seq.{length-sets, sets}
@@ -9,19 +10,19 @@ use lib.ListN.{drop, getD, length, length-append, length-set, set}
 use Rattle.escapes.specs.declared.Escape.{Escape}
 use Rattle.escapes.specs.declared.Escape.the-variants.{Bad, Item, Skipped}
 use Rattle.items.proofs.Lands.{placeOf}
-use Rattle.items.specs.Items.{itemOf}
+use Rattle.items.specs.Items.{isBytes, itemOf}
 use Rattle.items.specs.declared.Form.{Form}
 use Rattle.laws.proofs.Cases.{never}
 use Rattle.laws.proofs.Sets.{sets-append}
 use Rattle.laws.specs.Bools.{same}
 use Rattle.runs.proofs.Runs.{bare-next}
-use Rattle.runs.specs.Runs.{bareOf}
+use Rattle.runs.specs.Runs.{bareOf, runOf}
 use Rattle.sound.specs.Source.{soundTo}
-use Rattle.text.proofs.Decode.{Step}
+use Rattle.text.proofs.Decode.{Step, rest-end}
 use Rattle.text.specs.Utf8.{after, rest}
 use Rattle.unescape.proofs.Bodies.{body-bad, body-end, body-item, body-skipped, bodyAt, by-ending, next-past, next-room}
-use Rattle.unescape.proofs.Stretches.{Stretch}
-use Rattle.unescape.specs.Bodies.{Body, Writable, measuredOf, whole, writtenOf}
+use Rattle.unescape.proofs.Stretches.{Stretch, stretch-bare, stretch-run}
+use Rattle.unescape.specs.Bodies.{Body, Writable, fault, measuredOf, noMore, whole, writtenOf}
 use Rattle.unescape.specs.declared.body.Measured.the-variants.{Stopped, Whole}
 
 -- what is measured from here on gives what is measured from the start
@@ -56,13 +57,16 @@ module _ (form : Form) (s : List ℕ) (at count : ℕ) (i : Measuring form s at 
   pub measuring-same : (r : ℕ) → Stretch form s at r [] → Measuring form s r count
   measuring-same r g = subst (Measuring form s r) (omega arith) (measuring-next r [] 0 g refl)
 
-  pub measured-end : rest s at ≡ [] → Whole count ≡ measuredOf form 0 (bodyAt form s 0)
-  unfolding measuredOf writtenOf
-  measured-end e = sym (ap (measuredOf form count) (body-end form s at e) ∙ ap Whole (omega arith)) ∙ i .same
+  pub measuring-run : {b : Bool} {r : ℕ} → b ≡ isBytes form → r ≡ at + length (runOf b (drop at s)) → Measuring form s r (count + (r - at))
+  measuring-run {b} {r} q e = measuring-next r (runOf b (drop at s)) (r - at) (stretch-run form s at (i .sound) b q r e) (omega arith)
 
-  pub measured-bad : (v n : ℕ) (t : Step s at v n) (e : Escape) → e ≡ itemOf form v (rest s n) n → (number m : ℕ) → e ≡ Bad number m → Stopped number at m ≡ measuredOf form 0 (bodyAt form s 0)
+  pub measured-end : length s ≤ at → Whole count ≡ measuredOf form 0 (bodyAt form s 0)
+  unfolding measuredOf writtenOf
+  measured-end h = sym (ap (measuredOf form count) (body-end form s at (rest-end s at h)) ∙ ap Whole (omega arith)) ∙ i .same
+
+  pub measured-bad : (number m : ℕ) → bodyAt form s at ≡ noMore (fault number at m) → Stopped number at m ≡ measuredOf form 0 (bodyAt form s 0)
   unfolding measuredOf
-  measured-bad v n t e q number m h = sym (ap (measuredOf form count) (body-bad form s at v n t e q number m h)) ∙ i .same
+  measured-bad number m h = sym (ap (measuredOf form count) h) ∙ i .same
 
 -- what is written from here on gives what is written from the start, and there is room for it
 pub record Writing (form : Form) (s out₀ out : List ℕ) (at n : ℕ) : Type 0 where
@@ -78,14 +82,13 @@ unfolding soundTo
 writing-first form s out w = record { same = refl; room = omega (arith, w .enough); size = refl; sound = w .sound; faultless = w .faultless; inside = omega arith }
 
 module _ (form : Form) (s out₀ out : List ℕ) (at n : ℕ) (i : Writing form s out₀ out at n) where
-  pub written-end : rest s at ≡ [] → out ≡ sets out₀ 0 (writtenOf form (bodyAt form s 0 .items))
+  pub written-end : length s ≤ at → out ≡ sets out₀ 0 (writtenOf form (bodyAt form s 0 .items))
   unfolding writtenOf
-  written-end e = sym (ap (λ (b : Body). sets out n (writtenOf form (b .items))) (body-end form s at e)) ∙ i .same
+  written-end h = sym (ap (λ (b : Body). sets out n (writtenOf form (b .items))) (body-end form s at (rest-end s at h))) ∙ i .same
 
   -- a body that is written has no fault
-  pub written-bad {ℓ} : {X : Type ℓ} (v m : ℕ) (t : Step s at v m) (e : Escape) → e ≡ itemOf form v (rest s m) m → (number k : ℕ) → e ≡ Bad number k → X
-  written-bad v m t e q number k h =
-      never (let z = ap (λ (b : Body). b .ending) (body-bad form s at v m t e q number k h) in let y = i .faultless in cc)
+  pub written-bad {ℓ} : {X : Type ℓ} (number m : ℕ) → bodyAt form s at ≡ noMore (fault number at m) → X
+  written-bad number m h = never (let z = ap (λ (b : Body). b .ending) h in let y = i .faultless in cc)
 
   module _ (r : ℕ) (l : List ℕ) (g : Stretch form s at r l) where
     more : length (writtenOf form (bodyAt form s at .items)) ≡ length l + length (writtenOf form (bodyAt form s r .items))
@@ -109,6 +112,15 @@ module _ (form : Form) (s out₀ out : List ℕ) (at n : ℕ) (i : Writing form 
 
   pub writing-same : (r : ℕ) → Stretch form s at r [] → Writing form s out₀ out r n
   writing-same r g = subst (Writing form s out₀ out r) (omega arith) (writing-next r [] g out 0 refl refl)
+
+  run-here : (r : ℕ) → r ≡ at + length (bareOf (drop at s)) → Stretch form s at r (bareOf (drop at s))
+  run-here r e = stretch-bare form s at (i .sound) (λ b. i .faultless) r e
+
+  pub room-run : n + length (bareOf (drop at s)) ≤ length out
+  room-run = room-next (at + length (bareOf (drop at s))) (bareOf (drop at s)) (run-here (at + length (bareOf (drop at s))) refl)
+
+  pub writing-run : {r : ℕ} {out′ : List ℕ} → r ≡ at + length (bareOf (drop at s)) → out′ ≡ sets out n (bareOf (drop at s)) → Writing form s out₀ out′ r (n + (r - at))
+  writing-run {r} {out′} e z = writing-next r (bareOf (drop at s)) (run-here r e) out′ (r - at) z (omega arith)
 
 -- a run is copied from p on to m: what is left of it gives the whole
 pub record Copying (s out₀ out : List ℕ) (at n p m : ℕ) : Type 0 where

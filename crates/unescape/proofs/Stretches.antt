@@ -1,5 +1,5 @@
 -- From one place of a body to another: the bytes that it gives between them. A run gives its bytes as they stand. Assumes nothing.
-use Prim.Native.Nat.{ℕ, zero, suc, _+_, _≤_}
+use Prim.Native.Nat.{ℕ, zero, suc, _+_, _%_, _≤_, _<_}
 use mathlib.Core.Path.{_≡_, refl, sym, ap, _∙_, subst}
 use mathlib.Core.List.{List, [], _∷_, _++_, append-assoc}
 use mathlib.Core.Bool.{Bool, true, false}
@@ -16,13 +16,14 @@ use Rattle.items.proofs.Lands.{placeOf}
 use Rattle.items.specs.Items.{isBytes, isTemplate, itemBytes, itemOf}
 use Rattle.items.specs.declared.Form.{Form}
 use Rattle.laws.proofs.Cases.{never, split, split-eq, split-le}
+use Rattle.runs.proofs.Longs.{begins-item}
 use Rattle.runs.proofs.Runs.{bare-backslash, bare-cons, bare-end, bare-more, bare-scalar, high-here, low-few, low-here}
 use Rattle.runs.proofs.Shorts.{short-here}
-use Rattle.runs.specs.Runs.{asciiOf, bareOf, runOf, shortAt}
+use Rattle.runs.specs.Runs.{asciiOf, bareOf, beginsOf, escapedAt, limitOf, runOf, shortOf}
 use Rattle.text.proofs.Decode.{Step, after-end, by-step, step-ascii}
 use Rattle.text.specs.Utf8.{after, rest}
 use Rattle.unescape.proofs.Bodies.{body-bad, body-item, body-skipped, bodyAt, fits-here, next-past, next-room, next-sound}
-use Rattle.unescape.specs.Bodies.{Body, whole, writtenOf}
+use Rattle.unescape.specs.Bodies.{Body, fault, noMore, whole, writtenOf}
 
 -- from p to r the body gives the bytes l, and goes on at r
 pub record Stretch (form : Form) (s : List ℕ) (p r : ℕ) (l : List ℕ) : Type 0 where
@@ -34,7 +35,7 @@ pub record Stretch (form : Form) (s : List ℕ) (p r : ℕ) (l : List ℕ) : Typ
 
 -- what the scalar v at p begins, as the code found it: e
 module _ (form : Form) (s : List ℕ) (p v n : ℕ) (t : Step s p v n) (e : Escape) (q : e ≡ itemOf form v (rest s n) n) where
-  pub stretch-item : (x m : ℕ) → e ≡ Item x m → Stretch form s p m (itemBytes form x)
+  stretch-item : (x m : ℕ) → e ≡ Item x m → Stretch form s p m (itemBytes form x)
   unfolding writtenOf
   stretch-item x m h =
       let b = body-item form s p v n t e q x m h in
@@ -47,7 +48,7 @@ module _ (form : Form) (s : List ℕ) (p v n : ℕ) (t : Step s p v n) (e : Esca
         inside = λ z. omega (arith, next-room form s p v n t e q);
       }
 
-  pub stretch-skipped : (m : ℕ) → e ≡ Skipped m → Stretch form s p m []
+  stretch-skipped : (m : ℕ) → e ≡ Skipped m → Stretch form s p m []
   stretch-skipped m h =
       let b = body-skipped form s p v n t e q m h in
       let d = ap placeOf h in
@@ -60,11 +61,34 @@ module _ (form : Form) (s : List ℕ) (p v n : ℕ) (t : Step s p v n) (e : Esca
       }
 
 -- an escape of two bytes
-pub stretch-short : (form : Form) (s : List ℕ) (p x : ℕ) → x ≡ shortAt (isTemplate form) s p → x ≤ 0x7f → Stretch form s p (p + 2) (x ∷ [])
-stretch-short form s p x q l =
-    let h = short-here form s p x q l in
-    let low : itemBytes form x ≡ x ∷ [] = split (isBytes form) (λ b. byte-bytes form x b) (λ b. scalar-bytes form x b ∙ encode-1 x l) in
-    subst (Stretch form s p (p + 2)) low (stretch-item form s p 0x5c (p + 1) (h .step) (Item x (p + 2)) (h .item) x (p + 2) refl)
+pub stretch-short : (form : Form) (s : List ℕ) (p : ℕ) {v x limit : ℕ} {m : Bool} → v ≡ escapedAt s p → x ≡ shortOf v → limit ≡ limitOf m → m ≡ isTemplate form → x < limit → Stretch form s p (p + 2) (x % 128 ∷ [])
+stretch-short form s p {v} {x} {limit} {m} q r u e l =
+    let h = short-here form s p v x q r (omega (arith, u, ap limitOf e)) in
+    let low : itemBytes form (x % 128) ≡ x % 128 ∷ [] = split (isBytes form) (λ b. byte-bytes form (x % 128) b) (λ b. scalar-bytes form (x % 128) b ∙ encode-1 (x % 128) (omega arith)) in
+    subst (Stretch form s p (p + 2)) low (stretch-item form s p 0x5c (p + 1) (h .step) (Item (x % 128) (p + 2)) (h .item) (x % 128) (p + 2) refl)
+
+-- any other, as `begin_at` found it: e
+module _ (form : Form) (s : List ℕ) (p : ℕ) (h : p < length s) (d : after (rest s p) p ≡ length s) (e : Escape) (q : e ≡ beginsOf form (rest s p) p) where
+  begun {ℓ} : {X : Type ℓ} → ((v n : ℕ) → Step s p v n → e ≡ itemOf form v (rest s n) n → X) → X
+  begun f = by-step s p (λ z. absurd (omega (arith, after-end s p z))) (λ v n t. f v n t (q ∙ sym (begins-item form s p v n t)))
+
+  pub begun-past : p < placeOf e
+  begun-past = begun (λ v n t g. next-past form s p v n t e g)
+
+  pub begun-room : placeOf e ≤ length s
+  begun-room = begun (λ v n t g. next-room form s p v n t e g)
+
+  pub begun-byte : (x m : ℕ) → e ≡ Item x m → isBytes form ≡ true → x ≤ 0xff
+  begun-byte x m k = begun (λ v n t g. fits-here form s p v n t e g x m k .byte)
+
+  pub begun-item : (x m : ℕ) → e ≡ Item x m → Stretch form s p m (itemBytes form x)
+  begun-item x m k = begun (λ v n t g. stretch-item form s p v n t e g x m k)
+
+  pub begun-skipped : (m : ℕ) → e ≡ Skipped m → Stretch form s p m []
+  begun-skipped m k = begun (λ v n t g. stretch-skipped form s p v n t e g m k)
+
+  pub begun-bad : (number m : ℕ) → e ≡ Bad number m → bodyAt form s p ≡ noMore (fault number p m)
+  begun-bad number m k = begun (λ v n t g. body-bad form s p v n t e g number m k)
 
 no-length : (l : List ℕ) → length l ≤ 0 → l ≡ []
 no-length [] h = refl

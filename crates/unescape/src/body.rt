@@ -6,8 +6,11 @@ use items::is_bytes;
 use items::is_single;
 use items::is_template;
 use items::item_at;
+use runs::begin_at;
+use runs::escaped_at;
 use runs::run_end;
-use runs::short_at;
+use runs::short_escape;
+use runs::short_limit;
 use sound::Tested;
 use text::Scalar;
 use token::Refusal;
@@ -59,27 +62,26 @@ fn item_bytes(form: Form, item: u32) -> Encoded
     encoding::encode(item)
 }
 
-// Run by run, and what stands between two runs; a short escape first, since `item_at` is too long to be inlined.
+// Run by run, and what stands between two runs: an escape of two bytes first, since most are such.
 fn measure(s: &[u8], form: Form) -> Measured
     requires { ⌜ soundTo (now s) ≡ length (now s) ⌝ }
     ensures { λ r. ⌜ r ≡ measuredOf form 0 (bodyOf form 0 (rest (now (s .entry)) 0) 0) ⌝ }
 {
     let bytes = is_bytes(form);
-    let template = is_template(form);
+    let limit = short_limit(is_template(form));
     let mut at: usize = 0;
     let mut count: usize = 0;
     loop {
         let p = run_end(s, at, bytes);
         count = count + (p - at);
-        let short = short_at(s, p, template);
-        if short <= 0x7f {
+        if s.len() <= p {
+            return Measured::Whole { count };
+        }
+        if short_escape(escaped_at(s, p)) < limit {
             count = count + 1;
             at = p + 2;
         } else {
-            let Scalar::One { value, next } = text::scalar_at(s, p) else {
-                return Measured::Whole { count };
-            };
-            match item_at(s, form, value, next) {
+            match begin_at(s, p, form) {
                 Escape::Item {
                     value: item,
                     next: end,
@@ -151,22 +153,22 @@ fn write_items(s: &[u8], form: Form, out: &mut [u8])
     requires { ⌜ Writable form (now s) (length (now out)) ⌝ }
     ensures { λ _. ⌜ now (out .exit) ≡ sets (now (out .entry)) 0 (writtenOf form (bodyOf form 0 (rest (now (s .entry)) 0) 0 .items)) ⌝ }
 {
-    let template = is_template(form);
+    let limit = short_limit(is_template(form));
     let mut at: usize = 0;
     let mut n: usize = 0;
     loop {
         let p = copy_run(s, at, out, n);
         n = n + (p - at);
-        let short = short_at(s, p, template);
-        if short <= 0x7f {
-            out[n] = short;
+        if s.len() <= p {
+            return;
+        }
+        let short = short_escape(escaped_at(s, p));
+        if short < limit {
+            out[n] = short % 128;
             n = n + 1;
             at = p + 2;
         } else {
-            let Scalar::One { value, next } = text::scalar_at(s, p) else {
-                return;
-            };
-            match item_at(s, form, value, next) {
+            match begin_at(s, p, form) {
                 Escape::Item {
                     value: item,
                     next: end,
