@@ -60,8 +60,6 @@ fill('long_at', {
     'returns-5': 'nothing _ _'},
     macros=dict(S, bytes='(sym (@is-bytes .ensures) ∙ @if1 .taken)', text='(sym (@is-bytes .ensures) ∙ @if1 .left)'))
 fill('begin_at', {
-    'add-t11': 'omega (arith, begins-room _ _ _ _ _ (@long-at .ensures (@if1 .taken)))',
-    'returns': '@long-at .ensures (@if1 .taken)',
-    'returns-2': 'begins-end _ _ _ (step-none _ _ (sym (@scalar-at .ensures) ∙ @enum-told .given .1))',
-    'returns-3': '@item-at .ensures ∙ begins-item _ _ _ _ _ (step-one _ _ _ _ (sym (@scalar-at .ensures) ∙ @value .given .1))'},
+    'returns': 'begins-end _ _ _ (step-none _ _ (sym (@scalar-at .ensures) ∙ @enum-told .given .1))',
+    'returns-2': '@item-at .ensures ∙ begins-item _ _ _ _ _ (step-one _ _ _ _ (sym (@scalar-at .ensures) ∙ @value .given .1))'},
     macros=S)

@@ -12,14 +12,13 @@ use Rattle.escapes.specs.Escapes.{byteTurn, charTurn, digitsOf, hexOf, lowOnly,
 use Rattle.escapes.specs.declared.Escape.{Escape}
 use Rattle.escapes.specs.declared.Escape.the-variants.{Item, Skipped}
 use Rattle.items.proofs.Begins.{item-byte, item-char}
-use Rattle.items.proofs.Lands.{item-lands, lands-room, placeOf}
 use Rattle.items.specs.Items.{isBytes, isSingle, isTemplate, itemOf}
 use Rattle.items.specs.declared.Form.{Form}
 use Rattle.laws.proofs.Cases.{both-false, never, split-le}
 use Rattle.laws.specs.Bools.{same}
 use Rattle.runs.proofs.Shorts.{escaped-inv}
 use Rattle.runs.specs.Runs.{Closed, Packed, beginsOf, escapedAt}
-use Rattle.text.proofs.Decode.{Step, by-step, step-ascii}
+use Rattle.text.proofs.Decode.{Step, step-ascii}
 use Rattle.text.specs.Utf8.{rest}
 
 hex-ascii : (v : ℕ) → isHexDigit v ≡ true → v ≤ 0x7f
@@ -116,11 +115,3 @@ module _ (form : Form) (s : List ℕ) (at : ℕ) where
   pub begins-item : (v n : ℕ) → Step s at v n → itemOf form v (rest s n) n ≡ beginsOf form (rest s at) at
   unfolding beginsOf
   begins-item v n t = sym (rw (t .here) (ap (itemOf form v (rest s n)) (sym (t .next))))
-
-  -- an item that begins there ends in the source
-  pub begins-room : (x n : ℕ) → Item x n ≡ beginsOf form (rest s at) at → n ≤ length s
-  begins-room x n e =
-      by-step s at (λ z. never (let y = begins-end z in cc))
-      (λ v m t.
-      let k : itemOf form v (rest s m) m ≡ Item x n = begins-item v m t ∙ sym e in
-      omega (arith, ap placeOf k, lands-room s (rest s m) m (placeOf (itemOf form v (rest s m) m)) refl (t .room) (item-lands form v (rest s m) m)))

@@ -4,16 +4,18 @@ use mathlib.Core.Path.{_≡_, refl, sym, ap, _∙_, subst}
 use mathlib.Core.List.{List, _∷_}
 use mathlib.Core.Bool.{Bool, true, false}
 use native.Mathlib.Omega.{arith}
+use lib.Dec.{eqb}
 use lib.ListN.{List·getD-eq-default, getD, length}
 use borrow.Author.Tests.{eq-eqb, ne-eqb}
 use Rattle.escapes.specs.Escapes.{byteEscape, byteTurn, charEscape, charTurn, sharedOf}
 use Rattle.escapes.specs.declared.Escape.{Escape}
 use Rattle.escapes.specs.declared.Escape.the-variants.{Item}
+use Rattle.items.proofs.Lands.{pick-of}
 use Rattle.items.specs.Items.{isTemplate, itemOf}
 use Rattle.items.specs.declared.Form.{Form}
 use Rattle.items.specs.declared.Form.the-variants.{Byte, ByteText, Char, Template, Text}
 use Rattle.laws.proofs.Cases.{never, split, split-eq, split-le}
-use Rattle.runs.specs.Runs.{escapedAt, limitOf, shortOf}
+use Rattle.runs.specs.Runs.{escapedAt, itemIn, limitOf, shortOf}
 use Rattle.text.proofs.Decode.{Step, step-ascii}
 use Rattle.text.specs.Utf8.{rest, width}
 
@@ -23,6 +25,21 @@ unfolding shortOf
 no-short v a b c d e f g h i =
     rw (ne-eqb v 0x27 a, ne-eqb v 0x22 b, ne-eqb v 0x6e c, ne-eqb v 0x72 d, ne-eqb v 0x74 e, ne-eqb v 0x5c f, ne-eqb v 0x30 g, ne-eqb v 0x24 h, ne-eqb v 0x60 i)
 
+-- nothing in the table is 0 in seven bits
+pub short-some : (v : ℕ) → 1 ≤ shortOf v % 128
+unfolding shortOf
+short-some v =
+    let Some : ℕ → Type 0 = λ x. 1 ≤ x % 128 in
+    pick-of Some (eqb v 0x27) _ _ (omega arith)
+    (pick-of Some (eqb v 0x22) _ _ (omega arith)
+    (pick-of Some (eqb v 0x6e) _ _ (omega arith)
+    (pick-of Some (eqb v 0x72) _ _ (omega arith)
+    (pick-of Some (eqb v 0x74) _ _ (omega arith)
+    (pick-of Some (eqb v 0x5c) _ _ (omega arith)
+    (pick-of Some (eqb v 0x30) _ _ (omega arith)
+    (pick-of Some (eqb v 0x24) _ _ (omega arith)
+    (pick-of Some (eqb v 0x60) _ _ (omega arith) (omega arith)))))))))
+
 limit-most : (m : Bool) → limitOf m ≤ 0xff
 limit-most true = omega arith
 limit-most false = omega arith
@@ -31,7 +48,7 @@ module _ (v p x : ℕ) (cs : List ℕ) (q : x ≡ shortOf v) (m : Bool) (l : x <
   -- the table's rows, by the byte that v is: the seven that all forms have, then the two of templates, then none
   rows : (go : ℕ → Escape)
       → go 0x27 ≡ Item 0x27 p → go 0x22 ≡ Item 0x22 p → go 0x6e ≡ Item 0x0a p → go 0x72 ≡ Item 0x0d p → go 0x74 ≡ Item 0x09 p → go 0x5c ≡ Item 0x5c p → go 0x30 ≡ Item 0x00 p
-      → (m ≡ true → go 0x24 ≡ Item 0x24 p) → (m ≡ true → go 0x60 ≡ Item 0x60 p) → go v ≡ Item (x % 128) p
+      → (m ≡ true → go 0x24 ≡ Item 0x24 p) → (m ≡ true → go 0x60 ≡ Item 0x60 p) → go v ≡ Item (itemIn x) p
   unfolding shortOf
   rows go a b c d e f g i j =
       split-eq v 0x27 (λ h. row 0x27 h a)
@@ -45,21 +62,21 @@ module _ (v p x : ℕ) (cs : List ℕ) (q : x ≡ shortOf v) (m : Bool) (l : x <
       (λ h8. split-eq v 0x60 (λ h. split m (λ t. row 0x60 h (j t)) (λ t. absurd (few t (ap shortOf h) (omega arith))))
       (λ h9. absurd (omega (arith, no-short v h1 h2 h3 h4 h5 h6 h7 h8 h9, limit-most m)))))))))))
     where
-      row : (k : ℕ) → v ≡ k → go k ≡ Item (shortOf k % 128) p → go v ≡ Item (x % 128) p
-      row k h r = ap go h ∙ r ∙ ap (λ (z : ℕ). Item (z % 128) p) (sym (q ∙ ap shortOf h))
+      row : (k : ℕ) → v ≡ k → go k ≡ Item (itemIn (shortOf k)) p → go v ≡ Item (itemIn x) p
+      row k h r = ap go h ∙ r ∙ ap (λ (z : ℕ). Item (itemIn z) p) (sym (q ∙ ap shortOf h))
 
       few : {y : ℕ} → m ≡ false → shortOf v ≡ y → 0x80 ≤ y → ⊥
       few t h w = let z = ap limitOf t in omega arith
 
-  short-byte : (lines : Bool) → m ≡ false → byteTurn lines v cs p ≡ Item (x % 128) p
+  short-byte : (lines : Bool) → m ≡ false → byteTurn lines v cs p ≡ Item (itemIn x) p
   unfolding byteTurn sharedOf
   short-byte lines h = rows (λ k. byteTurn lines k cs p) refl refl refl refl refl refl refl (λ t. never (cc)) (λ t. never (cc))
 
-  short-char : (lines : Bool) → charTurn m lines v cs p ≡ Item (x % 128) p
+  short-char : (lines : Bool) → charTurn m lines v cs p ≡ Item (itemIn x) p
   unfolding charTurn sharedOf
   short-char lines = rows (λ k. charTurn m lines k cs p) refl refl refl refl refl refl refl (λ t. rw t) (λ t. rw t)
 
-short-item : (form : Form) (v x : ℕ) (cs : List ℕ) (p : ℕ) → x ≡ shortOf v → x < limitOf (isTemplate form) → Item (x % 128) (p + width v) ≡ itemOf form 0x5c (v ∷ cs) p
+short-item : (form : Form) (v x : ℕ) (cs : List ℕ) (p : ℕ) → x ≡ shortOf v → x < limitOf (isTemplate form) → Item (itemIn x) (p + width v) ≡ itemOf form 0x5c (v ∷ cs) p
 unfolding itemOf byteEscape charEscape
 short-item Text v x cs p q l = sym (short-char v (p + width v) x cs q false l true)
 short-item Template v x cs p q l = sym (short-char v (p + width v) x cs q true l true)
@@ -101,7 +118,7 @@ pub record Short (form : Form) (s : List ℕ) (p x n : ℕ) : Type 0 where
   pub step : Step s p 0x5c (p + 1)
   pub item : Item x n ≡ itemOf form 0x5c (rest s (p + 1)) (p + 1)
 
-pub short-here : (form : Form) (s : List ℕ) (p v x : ℕ) → v ≡ escapedAt s p → x ≡ shortOf v → x < limitOf (isTemplate form) → Short form s p (x % 128) (p + 2)
+pub short-here : (form : Form) (s : List ℕ) (p v x : ℕ) → v ≡ escapedAt s p → x ≡ shortOf v → x < limitOf (isTemplate form) → Short form s p (itemIn x) (p + 2)
 short-here form s p v x q r l =
     let low = short-low v (omega (arith, limit-most (isTemplate form))) in
     let e = escaped-inv s p v q (low .1) in
@@ -110,6 +127,6 @@ short-here form s p v x q r l =
     let two : p + 1 + width (getD s (p + 1) 0) ≡ p + 2 = omega (arith, second .next) in
     record {
       step = subst (λ (k : ℕ). Step s p k (p + 1)) (e .0) (step-ascii s p (omega (arith, e .2)) (omega (arith, e .0)));
-      item = ap (Item (x % 128)) (sym two) ∙ short-item form (getD s (p + 1) 0) x (rest s (p + 1 + 1)) (p + 1) (r ∙ ap shortOf (e .1)) l
+      item = ap (Item (itemIn x)) (sym two) ∙ short-item form (getD s (p + 1) 0) x (rest s (p + 1 + 1)) (p + 1) (r ∙ ap shortOf (e .1)) l
           ∙ ap (λ (cs : List ℕ). itemOf form 0x5c cs (p + 1)) (sym (second .here));
     }

@@ -1,5 +1,5 @@
 -- Fast ways through a body: runs of bytes that stand for themselves, and escapes by value. They are no rules of document 01; proofs/ has what they are in its terms.
-use Prim.Native.Nat.{ℕ, _+_, _/_, _%_, _<_}
+use Prim.Native.Nat.{ℕ, _+_, _-_, _/_, _%_, _<_}
 use mathlib.Core.Path.{_≡_}
 use mathlib.Core.List.{List, [], _∷_}
 use mathlib.Core.Bool.{Bool, true, false}
@@ -31,18 +31,22 @@ runOf bytes s = pick bytes (asciiOf (bareOf s)) (bareOf s)
 unfoldable pub escapedAt : List ℕ → ℕ → ℕ
 escapedAt s at = pick (eqb (getD s at 0) 0x5c) (getD s (at + 1) 0) 0
 
--- what a byte behind a backslash stands for where the escape is these two bytes: 0x80 more where only templates have it, and 0xff for no such escape
+-- one more than what a byte behind a backslash stands for where the escape is these two bytes: 0x80 more again where only templates have it, and 0xff for no such escape
 unfoldable pub shortOf : ℕ → ℕ
 shortOf v =
-    pick (eqb v 0x27) 0x27
-    (pick (eqb v 0x22) 0x22
-    (pick (eqb v 0x6e) 0x0a
-    (pick (eqb v 0x72) 0x0d
-    (pick (eqb v 0x74) 0x09
-    (pick (eqb v 0x5c) 0x5c
-    (pick (eqb v 0x30) 0x00
-    (pick (eqb v 0x24) 0xa4
-    (pick (eqb v 0x60) 0xe0 0xff))))))))
+    pick (eqb v 0x27) 0x28
+    (pick (eqb v 0x22) 0x23
+    (pick (eqb v 0x6e) 0x0b
+    (pick (eqb v 0x72) 0x0e
+    (pick (eqb v 0x74) 0x0a
+    (pick (eqb v 0x5c) 0x5d
+    (pick (eqb v 0x30) 0x01
+    (pick (eqb v 0x24) 0xa5
+    (pick (eqb v 0x60) 0xe1 0xff))))))))
+
+-- .. and what it stands for
+abbrev pub itemIn : ℕ → ℕ
+itemIn x = x % 128 - 1
 
 -- what is below this is an escape
 abbrev pub limitOf : Bool → ℕ

@@ -67,21 +67,21 @@ pub fn escaped_at(s: &[u8], at: usize) -> u8
     byte_at(s, at + 1)
 }
 
-// What a byte behind a backslash stands for, in seven bits: 0x80 more where only templates have it; 0xff: the escape is none of two bytes.
-// Constants only, so that the compiler makes a table of them.
+// One more than what a byte behind a backslash stands for, and 0x80 more again where only templates have it; 0xff: the escape is none of two bytes.
+// Constants only, and none its own key, so that the compiler makes a table of them.
 pub fn short_escape(v: u8) -> u8
     ensures { λ r. ⌜ r ≡ shortOf v ⌝ }
 {
     match v {
-        0x27 => 0x27,
-        0x22 => 0x22,
-        0x6e => 0x0a,
-        0x72 => 0x0d,
-        0x74 => 0x09,
-        0x5c => 0x5c,
-        0x30 => 0x00,
-        0x24 => 0xa4,
-        0x60 => 0xe0,
+        0x27 => 0x28,
+        0x22 => 0x23,
+        0x6e => 0x0b,
+        0x72 => 0x0e,
+        0x74 => 0x0a,
+        0x5c => 0x5d,
+        0x30 => 0x01,
+        0x24 => 0xa5,
+        0x60 => 0xe1,
         _ => 0xff,
     }
 }
@@ -175,8 +175,8 @@ fn unicode_closed(some: bool, x: u32, i: usize) -> u32
     x * 16 + (i as u32) + 1
 }
 
-// What \x or \u at a place gives, in one number; 0: it is neither of them, or a fault.
-fn long_at(s: &[u8], at: usize, form: Form) -> u32
+// What \x or \u at a place gives, in one number; 0: it is neither of them, or a fault. By value: `begin_at` answers through memory.
+pub fn long_at(s: &[u8], at: usize, form: Form) -> u32
     ensures { λ r. ⌜ Packed at (beginsOf form (rest (now (s .entry)) at) at) r ⌝ }
 {
     let v = escaped_at(s, at);
@@ -195,17 +195,10 @@ fn long_at(s: &[u8], at: usize, form: Form) -> u32
     0
 }
 
-// What begins at a place. By value as far as that goes: `item_at` answers through memory, and so do all that it calls.
+// What begins at a place.
 pub fn begin_at(s: &[u8], at: usize, form: Form) -> Escape
     ensures { λ r. ⌜ r ≡ beginsOf form (rest (now (s .entry)) at) at ⌝ }
 {
-    let long = long_at(s, at, form);
-    if 0 < long {
-        return Escape::Item {
-            value: long / 16,
-            next: at + (long % 16) as usize,
-        };
-    }
     let Scalar::One { value, next } = text::scalar_at(s, at) else {
         return Escape::Skipped { next: at };
     };

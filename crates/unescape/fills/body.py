@@ -46,10 +46,19 @@ fill('body/copy_run', {
     'returns-2': 'copied _ _ _ _ _ _ _ (@loop .inv) (bare-end $s$ (@loop .p) (@loop-test .left))'},
     macros=S)
 
-# `mid` is what holds behind a run, at the place p: the two passes go on from there by a stretch, `short` or what `begin_at` found.
+fill('body/put_item', {
+    'item-bytes-requires': '@Start .pre .0',
+    'put-requires': '(omega (arith, $four$, $len$), padded-size $bytes$ $four$ _ (@item-bytes .ensures), omega (arith, @Start .pre .1, $len$))',
+    'returns': '($len$, @put .ensures ∙ ap (sets _ _) (padded-front $bytes$ $four$ _ (@item-bytes .ensures)))'},
+    macros=dict(S, bytes='(itemBytes $form$ (@Start .args .item))', four='(item-four $form$ (@Start .args .item))'))
+fill('body/item_len', {
+    'item-bytes-requires': '@Start .pre',
+    'returns': '$len$'},
+    macros=S)
+# `mid` is what holds behind a run, at the place p: the two passes go on from there by a stretch: `short`, `long` or what `begin_at` found.
 P = dict(S, short='(stretch-short $form$ $s$ $p$ (@escaped-at .ensures) (@short-escape .ensures) (@short-limit .ensures) (@is-template .ensures) (@if2 .taken))',
-         begun='$form$ $s$ $p$ (@if1 .left) ($mid$ .sound) _ (@begin-at .ensures)', past='begun-past $begun$, begun-room $begun$',
-         given='(begun-item $begun$ _ _ (@item .given .1))', skip='(begun-skipped $begun$ _ (@end .given .1))')
+         here='$form$ $s$ $p$ (@if1 .left) ($mid$ .sound) _', packed='$here$ (@long-at .ensures (@if3 .taken))', begun='$here$ (@begin-at .ensures)',
+         long='(begun-item $packed$ _ _ refl)', given='(begun-item $begun$ _ _ (@value .given .1))', skip='(begun-skipped $begun$ _ (@next .given .1))')
 fill('body/measure', {
     'Inv-loop': 'Measuring form s at count', 'μ-loop': 'length s - at',
     'loop-holds': 'measuring-first _ _ (@Start .pre)',
@@ -60,15 +69,21 @@ fill('body/measure', {
     'add-at': 'let i = $two$ in omega (arith, i .inside)',
     'loop-less': 'let i = $two$ in omega (arith, i .inside, @run-end .ensures)',
     'loop-again': '$two$',
-    'item-bytes-requires': 'begun-byte $begun$ _ _ (@item .given .1)',
-    'add-count-3': 'let i = $item$ in omega (arith, i .less, i .inside)',
-    'loop-less-2': 'omega (arith, $past$, ap placeOf (@item .given .1), @run-end .ensures)',
-    'loop-again-2': '$item$',
-    'loop-less-3': 'omega (arith, $past$, ap placeOf (@end .given .1), @run-end .ensures)',
-    'loop-again-3': 'measuring-same _ _ _ _ $mid$ _ $skip$',
-    'returns-2': 'measured-bad _ _ _ _ $mid$ _ _ (begun-bad $begun$ _ _ (@number .given .1))'},
+    'item-len-requires': 'begun-byte $packed$ _ _ refl',
+    'add-count-3': 'let i = $value$ in omega (arith, i .less, i .inside)',
+    'add-at-2': 'omega (arith, begun-room $packed$)',
+    'loop-less-2': 'omega (arith, begun-past $packed$, begun-room $packed$, @run-end .ensures)',
+    'loop-again-2': '$value$',
+    'item-len-requires-2': 'begun-byte $begun$ _ _ (@value .given .1)',
+    'add-count-4': 'let i = $item$ in omega (arith, i .less, i .inside)',
+    'loop-less-3': 'omega (arith, begun-past $begun$, begun-room $begun$, ap placeOf (@value .given .1), @run-end .ensures)',
+    'loop-again-3': '$item$',
+    'loop-less-4': 'omega (arith, begun-past $begun$, begun-room $begun$, ap placeOf (@next .given .1), @run-end .ensures)',
+    'loop-again-4': 'measuring-same _ _ _ _ $mid$ _ $skip$',
+    'returns-2': '@stopped .ensures ∙ measured-bad _ _ _ _ $mid$ _ _ (begun-bad $begun$ _ _ (@number .given .1))'},
     macros=dict(P, p='(@run-end .result)', mid='(measuring-run $form$ $s$ (@loop .at) (@loop .count) (@loop .inv) (@is-bytes .ensures) (@run-end .ensures))',
-                two='(measuring-next _ _ _ _ $mid$ _ _ 1 $short$ refl)', item='(measuring-next _ _ _ _ $mid$ _ _ _ $given$ $len$)'))
+                two='(measuring-next _ _ _ _ $mid$ _ _ 1 $short$ refl)', value='(measuring-next _ _ _ _ $mid$ _ _ _ $long$ (@item-len .ensures))',
+                item='(measuring-next _ _ _ _ $mid$ _ _ _ $given$ (@item-len2 .ensures))'))
 fill('body/write_items', {
     'Inv-loop': 'Writing form s out₀ out at n', 'μ-loop': 'length s - at',
     'loop-holds': 'writing-first _ _ _ (@Start .pre)',
@@ -77,24 +92,28 @@ fill('body/write_items', {
     'add-n': 'let i = $mid$ in omega (arith, i .room)',
     'same-length': '$mid$ .size',
     'returns': 'written-end _ _ _ _ _ _ $mid$ (@if1 .taken)',
+    'sub-out': 'omega (arith, short-some (@escaped-at .result), @short-escape .ensures)',
     'slice-write-out': 'omega (arith, room-next _ _ _ _ _ _ $mid$ _ _ $short$)',
     'add-n-2': 'omega (arith, room-next _ _ _ _ _ _ $mid$ _ _ $short$)',
     'add-at': 'let i = $two$ in omega (arith, i .inside)',
     'loop-less': 'let i = $two$ in omega (arith, i .inside, @copy-run .ensures .0)',
     'loop-again': '$two$',
-    'item-bytes-requires': 'begun-byte $begun$ _ _ (@item .given .1)',
-    'put-requires': '(omega (arith, $four$, $len$), padded-size $bytes$ $four$ _ (@item-bytes .ensures), omega (arith, room-next _ _ _ _ _ _ $mid$ _ _ $given$, $len$))',
-    'add-n-3': 'let i = $item$ in let g = @Start .good in omega (arith, i .room, i .size)',
-    'loop-less-2': 'omega (arith, $past$, ap placeOf (@item .given .1), @copy-run .ensures .0)',
-    'loop-again-2': '$item$',
-    'loop-less-3': 'omega (arith, $past$, ap placeOf (@end .given .1), @copy-run .ensures .0)',
-    'loop-again-3': 'writing-same _ _ _ _ _ _ $mid$ _ $skip$',
+    'put-item-requires': '(begun-byte $packed$ _ _ refl, room-next _ _ _ _ _ _ $mid$ _ _ $long$)',
+    'add-n-3': 'let i = $value$ in let g = @Start .good in omega (arith, i .room, i .size)',
+    'add-at-2': 'omega (arith, begun-room $packed$)',
+    'loop-less-2': 'omega (arith, begun-past $packed$, begun-room $packed$, @copy-run .ensures .0)',
+    'loop-again-2': '$value$',
+    'put-item-requires-2': '(begun-byte $begun$ _ _ (@value .given .1), room-next _ _ _ _ _ _ $mid$ _ _ $given$)',
+    'add-n-4': 'let i = $item$ in let g = @Start .good in omega (arith, i .room, i .size)',
+    'loop-less-3': 'omega (arith, begun-past $begun$, begun-room $begun$, ap placeOf (@value .given .1), @copy-run .ensures .0)',
+    'loop-again-3': '$item$',
+    'loop-less-4': 'omega (arith, begun-past $begun$, begun-room $begun$, ap placeOf (@next .given .1), @copy-run .ensures .0)',
+    'loop-again-4': 'writing-same _ _ _ _ _ _ $mid$ _ $skip$',
     'same-length-2': '$mid$ .size',
     'returns-2': 'written-bad _ _ _ _ _ _ $mid$ _ _ (begun-bad $begun$ _ _ (@enum-told .given .1))'},
     macros=dict(P, p='(@copy-run .result)', mid='(writing-run $form$ $s$ _ _ (@loop .at) (@loop .n) (@loop .inv) (@copy-run .ensures .0) (@copy-run .ensures .1))',
-                two='(writing-next _ _ _ _ _ _ $mid$ _ _ $short$ _ 1 refl refl)',
-                item='(writing-next _ _ _ _ _ _ $mid$ _ _ $given$ _ _ (@put .ensures ∙ ap (sets _ _) (padded-front $bytes$ $four$ _ (@item-bytes .ensures))) $len$)',
-                bytes='(itemBytes $form$ (@item .given .0 .0))', four='(item-four $form$ (@item .given .0 .0))'))
+                two='(writing-next _ _ _ _ _ _ $mid$ _ _ $short$ _ 1 refl refl)', value='(writing-next _ _ _ _ _ _ $mid$ _ _ $long$ _ _ (@put-item .ensures .1) (@put-item .ensures .0))',
+                item='(writing-next _ _ _ _ _ _ $mid$ _ _ $given$ _ _ (@put-item2 .ensures .1) (@put-item2 .ensures .0))'))
 fill('body/unescape_sound', {
     'returns': '(@refuse2 .ensures ∙ refused-answer _ _ _ _ $wrong$, refused-store _ _ _ _ _ $wrong$)',
     'returns-2': '(@refuse3 .ensures ∙ refused-answer _ _ _ _ $short$, refused-store _ _ _ _ _ $short$)',

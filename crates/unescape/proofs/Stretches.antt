@@ -1,5 +1,5 @@
 -- From one place of a body to another: the bytes that it gives between them. A run gives its bytes as they stand. Assumes nothing.
-use Prim.Native.Nat.{ℕ, zero, suc, _+_, _%_, _≤_, _<_}
+use Prim.Native.Nat.{ℕ, zero, suc, _+_, _≤_, _<_}
 use mathlib.Core.Path.{_≡_, refl, sym, ap, _∙_, subst}
 use mathlib.Core.List.{List, [], _∷_, _++_, append-assoc}
 use mathlib.Core.Bool.{Bool, true, false}
@@ -19,7 +19,7 @@ use Rattle.laws.proofs.Cases.{never, split, split-eq, split-le}
 use Rattle.runs.proofs.Longs.{begins-item}
 use Rattle.runs.proofs.Runs.{bare-backslash, bare-cons, bare-end, bare-more, bare-scalar, high-here, low-few, low-here}
 use Rattle.runs.proofs.Shorts.{short-here}
-use Rattle.runs.specs.Runs.{asciiOf, bareOf, beginsOf, escapedAt, limitOf, runOf, shortOf}
+use Rattle.runs.specs.Runs.{asciiOf, bareOf, beginsOf, escapedAt, itemIn, limitOf, runOf, shortOf}
 use Rattle.text.proofs.Decode.{Step, after-end, by-step, step-ascii}
 use Rattle.text.specs.Utf8.{after, rest}
 use Rattle.unescape.proofs.Bodies.{body-bad, body-item, body-skipped, bodyAt, fits-here, next-past, next-room, next-sound}
@@ -61,11 +61,11 @@ module _ (form : Form) (s : List ℕ) (p v n : ℕ) (t : Step s p v n) (e : Esca
       }
 
 -- an escape of two bytes
-pub stretch-short : (form : Form) (s : List ℕ) (p : ℕ) {v x limit : ℕ} {m : Bool} → v ≡ escapedAt s p → x ≡ shortOf v → limit ≡ limitOf m → m ≡ isTemplate form → x < limit → Stretch form s p (p + 2) (x % 128 ∷ [])
+pub stretch-short : (form : Form) (s : List ℕ) (p : ℕ) {v x limit : ℕ} {m : Bool} → v ≡ escapedAt s p → x ≡ shortOf v → limit ≡ limitOf m → m ≡ isTemplate form → x < limit → Stretch form s p (p + 2) (itemIn x ∷ [])
 stretch-short form s p {v} {x} {limit} {m} q r u e l =
     let h = short-here form s p v x q r (omega (arith, u, ap limitOf e)) in
-    let low : itemBytes form (x % 128) ≡ x % 128 ∷ [] = split (isBytes form) (λ b. byte-bytes form (x % 128) b) (λ b. scalar-bytes form (x % 128) b ∙ encode-1 (x % 128) (omega arith)) in
-    subst (Stretch form s p (p + 2)) low (stretch-item form s p 0x5c (p + 1) (h .step) (Item (x % 128) (p + 2)) (h .item) (x % 128) (p + 2) refl)
+    let low : itemBytes form (itemIn x) ≡ itemIn x ∷ [] = split (isBytes form) (λ b. byte-bytes form (itemIn x) b) (λ b. scalar-bytes form (itemIn x) b ∙ encode-1 (itemIn x) (omega arith)) in
+    subst (Stretch form s p (p + 2)) low (stretch-item form s p 0x5c (p + 1) (h .step) (Item (itemIn x) (p + 2)) (h .item) (itemIn x) (p + 2) refl)
 
 -- any other, as `begin_at` found it: e
 module _ (form : Form) (s : List ℕ) (p : ℕ) (h : p < length s) (d : after (rest s p) p ≡ length s) (e : Escape) (q : e ≡ beginsOf form (rest s p) p) where

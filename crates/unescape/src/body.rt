@@ -8,6 +8,7 @@ use items::is_template;
 use items::item_at;
 use runs::begin_at;
 use runs::escaped_at;
+use runs::long_at;
 use runs::run_end;
 use runs::short_escape;
 use runs::short_limit;
@@ -31,6 +32,8 @@ ghost use Rattle.runs.specs.Runs.{bareOf};
 ghost use Rattle.sound.specs.Source.{soundTo};
 ghost use Rattle.text.specs.Utf8.{rest};
 ghost use Rattle.unescape.specs.Bodies.{Writable, bodyOf, measuredOf, readOf, refusedAt, unescapeOf, writtenOf, wrongCount};
+ghost use Rattle.unescape.specs.declared.body.Measured.{Measured};
+ghost use Rattle.unescape.specs.declared.body.Measured.the-variants.{Stopped};
 
 // How many bytes were written, or why none.
 pub enum Unescaped {
@@ -62,7 +65,22 @@ fn item_bytes(form: Form, item: u32) -> Encoded
     encoding::encode(item)
 }
 
-// Run by run, and what stands between two runs: an escape of two bytes first, since most are such.
+// How many bytes an item takes.
+fn item_len(form: Form, item: u32) -> usize
+    requires { ⌜ (isBytes form ≡ true → item ≤ 0xff) ⌝ }
+    ensures { λ r. ⌜ r ≡ length (itemBytes form item) ⌝ }
+{
+    let encoded = item_bytes(form, item);
+    encoded.len
+}
+
+fn stopped(number: u32, start: usize, end: usize) -> Measured
+    ensures { λ r. ⌜ r ≡ Measured.Stopped number start end ⌝ }
+{
+    Measured::Stopped { number, start, end }
+}
+
+// Run by run, and what stands between two runs: an escape of two bytes first, since most are such, then those by value.
 fn measure(s: &[u8], form: Form) -> Measured
     requires { ⌜ soundTo (now s) ≡ length (now s) ⌝ }
     ensures { λ r. ⌜ r ≡ measuredOf form 0 (bodyOf form 0 (rest (now (s .entry)) 0) 0) ⌝ }
@@ -81,24 +99,18 @@ fn measure(s: &[u8], form: Form) -> Measured
             count = count + 1;
             at = p + 2;
         } else {
-            match begin_at(s, p, form) {
-                Escape::Item {
-                    value: item,
-                    next: end,
-                } => {
-                    let encoded = item_bytes(form, item);
-                    count = count + encoded.len;
-                    at = end;
-                }
-                Escape::Skipped { next: end } => {
-                    at = end;
-                }
-                Escape::Bad { number, next: end } => {
-                    return Measured::Stopped {
-                        number,
-                        start: p,
-                        end,
-                    };
+            let long = long_at(s, p, form);
+            if 0 < long {
+                count = count + item_len(form, long / 16);
+                at = p + (long % 16) as usize;
+            } else {
+                match begin_at(s, p, form) {
+                    Escape::Item { value, next } => {
+                        count = count + item_len(form, value);
+                        at = next;
+                    }
+                    Escape::Skipped { next } => at = next,
+                    Escape::Bad { number, next } => return stopped(number, p, next),
                 }
             }
         }
@@ -126,6 +138,19 @@ fn put(out: &mut [u8], n: usize, bytes: &[u8; 4], len: usize)
         return;
     }
     out[n + 3] = bytes[3];
+}
+
+// An item's bytes, to the place n on; how many they are.
+fn put_item(out: &mut [u8], n: usize, form: Form, item: u32) -> usize
+    requires { ⌜ (isBytes form ≡ true → item ≤ 0xff) × (n + length (itemBytes form item) ≤ length (now out)) ⌝ }
+    ensures len { λ r. ⌜ r ≡ length (itemBytes form item) ⌝ }
+    ensures bytes { λ _. ⌜ now (out .exit) ≡ sets (now (out .entry)) n (itemBytes form item) ⌝ }
+{
+    let encoded = item_bytes(form, item);
+    let len = encoded.len;
+    let bytes = encoded.bytes;
+    put(out, n, &bytes, len);
+    len
 }
 
 // The bytes before the next backslash, to the place n on; the backslash's place, or the end.
@@ -164,27 +189,22 @@ fn write_items(s: &[u8], form: Form, out: &mut [u8])
         }
         let short = short_escape(escaped_at(s, p));
         if short < limit {
-            out[n] = short % 128;
+            out[n] = short % 128 - 1;
             n = n + 1;
             at = p + 2;
         } else {
-            match begin_at(s, p, form) {
-                Escape::Item {
-                    value: item,
-                    next: end,
-                } => {
-                    let encoded = item_bytes(form, item);
-                    let len = encoded.len;
-                    let bytes = encoded.bytes;
-                    put(out, n, &bytes, len);
-                    n = n + len;
-                    at = end;
-                }
-                Escape::Skipped { next: end } => {
-                    at = end;
-                }
-                Escape::Bad { number: _, next: _ } => {
-                    return;
+            let long = long_at(s, p, form);
+            if 0 < long {
+                n = n + put_item(out, n, form, long / 16);
+                at = p + (long % 16) as usize;
+            } else {
+                match begin_at(s, p, form) {
+                    Escape::Item { value, next } => {
+                        n = n + put_item(out, n, form, value);
+                        at = next;
+                    }
+                    Escape::Skipped { next } => at = next,
+                    Escape::Bad { number: _, next: _ } => return,
                 }
             }
         }

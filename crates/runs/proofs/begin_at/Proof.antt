@@ -1,22 +1,9 @@
 use mathlib.Core.Path.{sym, _∙_}
-use native.Mathlib.Omega.{arith}
 use borrow.Author.Needs.{needs}
-use Rattle.runs.proofs.Longs.{begins-end, begins-item, begins-room}
+use Rattle.runs.proofs.Longs.{begins-end, begins-item}
 use Rattle.text.proofs.Decode.{step-none, step-one}
 use Rattle.runs.proofs.begin_at.Statement.{statement}
 use Rattle.runs.proofs.begin_at.Tie as tie
-
-long-at-requires : tie.Need-long-at-requires
-long-at-requires c κs = search needs
-
-cast-t10 : tie.Need-cast-t10
-cast-t10 c = search needs
-
-add-t11 : tie.Need-add-t11
-add-t11 c = omega (arith, begins-room _ _ _ _ _ (c .before .long-at .ensures (c .if1 .taken)))
-
-returns : tie.Need-returns
-returns c = c .before .long-at .ensures (c .if1 .taken)
 
 scalar-at-requires : tie.Need-scalar-at-requires
 scalar-at-requires c κs = search needs
@@ -27,26 +14,16 @@ enum-known-value c = search needs
 enum-told : tie.Need-enum-told
 enum-told c = search needs
 
-returns-2 : tie.Need-returns-2
-returns-2 c = begins-end _ _ _ (step-none _ _ (sym (c .before .before .scalar-at .ensures) ∙ c .enum-told .given .1))
+returns : tie.Need-returns
+returns c = begins-end _ _ _ (step-none _ _ (sym (c .before .before .scalar-at .ensures) ∙ c .enum-told .given .1))
 
 item-at-requires : tie.Need-item-at-requires
 item-at-requires c κs = search needs
 
-returns-3 : tie.Need-returns-3
-returns-3 c = c .item-at .ensures ∙ begins-item _ _ _ _ _ (step-one _ _ _ _ (sym (c .before .before .before .before .scalar-at .ensures) ∙ c .before .before .value .given .1))
+returns-2 : tie.Need-returns-2
+returns-2 c = c .item-at .ensures ∙ begins-item _ _ _ _ _ (step-one _ _ _ _ (sym (c .before .before .before .before .scalar-at .ensures) ∙ c .before .before .value .given .1))
 
 pub begin-at-spec : {M : Type 1} → statement M
 begin-at-spec =
     tie.close
-    (tie.spec
-    long-at-requires
-    cast-t10
-    add-t11
-    returns
-    scalar-at-requires
-    enum-known-value
-    enum-told
-    returns-2
-    item-at-requires
-    returns-3)
+    (tie.spec scalar-at-requires enum-known-value enum-told returns item-at-requires returns-2)

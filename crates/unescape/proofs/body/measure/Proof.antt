@@ -1,9 +1,8 @@
 use Prim.Native.Nat.{_-_}
-use mathlib.Core.Path.{refl, ap}
+use mathlib.Core.Path.{refl, ap, _∙_}
 use native.Mathlib.Omega.{arith}
 use borrow.Author.Needs.{needs}
 use lib.ListN.{length}
-use Rattle.encoding.specs.declared.Encoded.{Encoded}
 use Rattle.items.proofs.Lands.{placeOf}
 use Rattle.unescape.proofs.Passes.{Measuring, measured-bad, measured-end, measuring-first, measuring-next, measuring-run, measuring-same}
 use Rattle.unescape.proofs.Stretches.{begun-bad, begun-byte, begun-item, begun-past, begun-room, begun-skipped, stretch-short}
@@ -58,38 +57,62 @@ loop-less c = let i = (measuring-next _ _ _ _ (measuring-run (c .before .before 
 loop-again : tie.Need-loop-again Inv-loop μ-loop
 loop-again c = (measuring-next _ _ _ _ (measuring-run (c .before .before .before .before .before .before .before .before .before .before .args .form) (c .before .before .before .before .before .before .before .before .before .before .args .s .now) (c .before .before .before .before .before .loop .at) (c .before .before .before .before .before .loop .count) (c .before .before .before .before .before .loop .inv) (c .before .before .before .before .before .before .before .before .is-bytes .ensures) (c .before .before .before .before .run-end .ensures)) _ _ 1 (stretch-short (c .before .before .before .before .before .before .before .before .before .before .args .form) (c .before .before .before .before .before .before .before .before .before .before .args .s .now) (c .before .before .before .before .run-end .result) (c .before .before .escaped-at .ensures) (c .before .short-escape .ensures) (c .before .before .before .before .before .before .short-limit .ensures) (c .before .before .before .before .before .before .before .is-template .ensures) (c .if2 .taken)) refl)
 
+long-at-requires : tie.Need-long-at-requires Inv-loop μ-loop
+long-at-requires c κs = search needs
+
+item-len-requires : tie.Need-item-len-requires Inv-loop μ-loop
+item-len-requires c κs = begun-byte (c .before .before .before .before .before .before .before .before .before .before .before .before .args .form) (c .before .before .before .before .before .before .before .before .before .before .before .before .args .s .now) (c .before .before .before .before .before .before .run-end .result) (c .before .before .before .before .before .if1 .left) ((measuring-run (c .before .before .before .before .before .before .before .before .before .before .before .before .args .form) (c .before .before .before .before .before .before .before .before .before .before .before .before .args .s .now) (c .before .before .before .before .before .before .before .loop .at) (c .before .before .before .before .before .before .before .loop .count) (c .before .before .before .before .before .before .before .loop .inv) (c .before .before .before .before .before .before .before .before .before .before .is-bytes .ensures) (c .before .before .before .before .before .before .run-end .ensures)) .sound) _ (c .before .long-at .ensures (c .if3 .taken)) _ _ refl
+
+add-count-3 : tie.Need-add-count-3 Inv-loop μ-loop
+add-count-3 c = let i = (measuring-next _ _ _ _ (measuring-run (c .before .before .before .before .before .before .before .before .before .before .before .before .before .args .form) (c .before .before .before .before .before .before .before .before .before .before .before .before .before .args .s .now) (c .before .before .before .before .before .before .before .before .loop .at) (c .before .before .before .before .before .before .before .before .loop .count) (c .before .before .before .before .before .before .before .before .loop .inv) (c .before .before .before .before .before .before .before .before .before .before .before .is-bytes .ensures) (c .before .before .before .before .before .before .before .run-end .ensures)) _ _ _ (begun-item (c .before .before .before .before .before .before .before .before .before .before .before .before .before .args .form) (c .before .before .before .before .before .before .before .before .before .before .before .before .before .args .s .now) (c .before .before .before .before .before .before .before .run-end .result) (c .before .before .before .before .before .before .if1 .left) ((measuring-run (c .before .before .before .before .before .before .before .before .before .before .before .before .before .args .form) (c .before .before .before .before .before .before .before .before .before .before .before .before .before .args .s .now) (c .before .before .before .before .before .before .before .before .loop .at) (c .before .before .before .before .before .before .before .before .loop .count) (c .before .before .before .before .before .before .before .before .loop .inv) (c .before .before .before .before .before .before .before .before .before .before .before .is-bytes .ensures) (c .before .before .before .before .before .before .before .run-end .ensures)) .sound) _ (c .before .before .long-at .ensures (c .before .if3 .taken)) _ _ refl) (c .item-len .ensures)) in omega (arith, i .less, i .inside)
+
+cast-at : tie.Need-cast-at Inv-loop μ-loop
+cast-at c = search needs
+
+add-at-2 : tie.Need-add-at-2 Inv-loop μ-loop
+add-at-2 c = omega (arith, begun-room (c .before .before .before .before .before .before .before .before .before .before .before .before .before .args .form) (c .before .before .before .before .before .before .before .before .before .before .before .before .before .args .s .now) (c .before .before .before .before .before .before .before .run-end .result) (c .before .before .before .before .before .before .if1 .left) ((measuring-run (c .before .before .before .before .before .before .before .before .before .before .before .before .before .args .form) (c .before .before .before .before .before .before .before .before .before .before .before .before .before .args .s .now) (c .before .before .before .before .before .before .before .before .loop .at) (c .before .before .before .before .before .before .before .before .loop .count) (c .before .before .before .before .before .before .before .before .loop .inv) (c .before .before .before .before .before .before .before .before .before .before .before .is-bytes .ensures) (c .before .before .before .before .before .before .before .run-end .ensures)) .sound) _ (c .before .before .long-at .ensures (c .before .if3 .taken)))
+
+loop-less-2 : tie.Need-loop-less-2 Inv-loop μ-loop
+loop-less-2 c = omega (arith, begun-past (c .before .before .before .before .before .before .before .before .before .before .before .before .before .args .form) (c .before .before .before .before .before .before .before .before .before .before .before .before .before .args .s .now) (c .before .before .before .before .before .before .before .run-end .result) (c .before .before .before .before .before .before .if1 .left) ((measuring-run (c .before .before .before .before .before .before .before .before .before .before .before .before .before .args .form) (c .before .before .before .before .before .before .before .before .before .before .before .before .before .args .s .now) (c .before .before .before .before .before .before .before .before .loop .at) (c .before .before .before .before .before .before .before .before .loop .count) (c .before .before .before .before .before .before .before .before .loop .inv) (c .before .before .before .before .before .before .before .before .before .before .before .is-bytes .ensures) (c .before .before .before .before .before .before .before .run-end .ensures)) .sound) _ (c .before .before .long-at .ensures (c .before .if3 .taken)), begun-room (c .before .before .before .before .before .before .before .before .before .before .before .before .before .args .form) (c .before .before .before .before .before .before .before .before .before .before .before .before .before .args .s .now) (c .before .before .before .before .before .before .before .run-end .result) (c .before .before .before .before .before .before .if1 .left) ((measuring-run (c .before .before .before .before .before .before .before .before .before .before .before .before .before .args .form) (c .before .before .before .before .before .before .before .before .before .before .before .before .before .args .s .now) (c .before .before .before .before .before .before .before .before .loop .at) (c .before .before .before .before .before .before .before .before .loop .count) (c .before .before .before .before .before .before .before .before .loop .inv) (c .before .before .before .before .before .before .before .before .before .before .before .is-bytes .ensures) (c .before .before .before .before .before .before .before .run-end .ensures)) .sound) _ (c .before .before .long-at .ensures (c .before .if3 .taken)), c .before .before .before .before .before .before .before .run-end .ensures)
+
+loop-again-2 : tie.Need-loop-again-2 Inv-loop μ-loop
+loop-again-2 c = (measuring-next _ _ _ _ (measuring-run (c .before .before .before .before .before .before .before .before .before .before .before .before .before .args .form) (c .before .before .before .before .before .before .before .before .before .before .before .before .before .args .s .now) (c .before .before .before .before .before .before .before .before .loop .at) (c .before .before .before .before .before .before .before .before .loop .count) (c .before .before .before .before .before .before .before .before .loop .inv) (c .before .before .before .before .before .before .before .before .before .before .before .is-bytes .ensures) (c .before .before .before .before .before .before .before .run-end .ensures)) _ _ _ (begun-item (c .before .before .before .before .before .before .before .before .before .before .before .before .before .args .form) (c .before .before .before .before .before .before .before .before .before .before .before .before .before .args .s .now) (c .before .before .before .before .before .before .before .run-end .result) (c .before .before .before .before .before .before .if1 .left) ((measuring-run (c .before .before .before .before .before .before .before .before .before .before .before .before .before .args .form) (c .before .before .before .before .before .before .before .before .before .before .before .before .before .args .s .now) (c .before .before .before .before .before .before .before .before .loop .at) (c .before .before .before .before .before .before .before .before .loop .count) (c .before .before .before .before .before .before .before .before .loop .inv) (c .before .before .before .before .before .before .before .before .before .before .before .is-bytes .ensures) (c .before .before .before .before .before .before .before .run-end .ensures)) .sound) _ (c .before .before .long-at .ensures (c .before .if3 .taken)) _ _ refl) (c .item-len .ensures))
+
 begin-at-requires : tie.Need-begin-at-requires Inv-loop μ-loop
 begin-at-requires c κs = search needs
 
-enum-known-item : tie.Need-enum-known-item Inv-loop μ-loop
-enum-known-item c = search needs
+enum-known-value : tie.Need-enum-known-value Inv-loop μ-loop
+enum-known-value c = search needs
 
-item-bytes-requires : tie.Need-item-bytes-requires Inv-loop μ-loop
-item-bytes-requires c κs = begun-byte (c .before .before .before .before .before .before .before .before .before .before .before .before .before .before .args .form) (c .before .before .before .before .before .before .before .before .before .before .before .before .before .before .args .s .now) (c .before .before .before .before .before .before .before .before .run-end .result) (c .before .before .before .before .before .before .before .if1 .left) ((measuring-run (c .before .before .before .before .before .before .before .before .before .before .before .before .before .before .args .form) (c .before .before .before .before .before .before .before .before .before .before .before .before .before .before .args .s .now) (c .before .before .before .before .before .before .before .before .before .loop .at) (c .before .before .before .before .before .before .before .before .before .loop .count) (c .before .before .before .before .before .before .before .before .before .loop .inv) (c .before .before .before .before .before .before .before .before .before .before .before .before .is-bytes .ensures) (c .before .before .before .before .before .before .before .before .run-end .ensures)) .sound) _ (c .before .before .before .begin-at .ensures) _ _ (c .before .item .given .1)
+item-len-requires-2 : tie.Need-item-len-requires-2 Inv-loop μ-loop
+item-len-requires-2 c κs = begun-byte (c .before .before .before .before .before .before .before .before .before .before .before .before .before .before .before .before .args .form) (c .before .before .before .before .before .before .before .before .before .before .before .before .before .before .before .before .args .s .now) (c .before .before .before .before .before .before .before .before .before .before .run-end .result) (c .before .before .before .before .before .before .before .before .before .if1 .left) ((measuring-run (c .before .before .before .before .before .before .before .before .before .before .before .before .before .before .before .before .args .form) (c .before .before .before .before .before .before .before .before .before .before .before .before .before .before .before .before .args .s .now) (c .before .before .before .before .before .before .before .before .before .before .before .loop .at) (c .before .before .before .before .before .before .before .before .before .before .before .loop .count) (c .before .before .before .before .before .before .before .before .before .before .before .loop .inv) (c .before .before .before .before .before .before .before .before .before .before .before .before .before .before .is-bytes .ensures) (c .before .before .before .before .before .before .before .before .before .before .run-end .ensures)) .sound) _ (c .before .before .before .begin-at .ensures) _ _ (c .before .value .given .1)
 
-add-count-3 : tie.Need-add-count-3 Inv-loop μ-loop
-add-count-3 c = let i = (measuring-next _ _ _ _ (measuring-run (c .before .before .before .before .before .before .before .before .before .before .before .before .before .before .before .before .args .form) (c .before .before .before .before .before .before .before .before .before .before .before .before .before .before .before .before .args .s .now) (c .before .before .before .before .before .before .before .before .before .before .before .loop .at) (c .before .before .before .before .before .before .before .before .before .before .before .loop .count) (c .before .before .before .before .before .before .before .before .before .before .before .loop .inv) (c .before .before .before .before .before .before .before .before .before .before .before .before .before .before .is-bytes .ensures) (c .before .before .before .before .before .before .before .before .before .before .run-end .ensures)) _ _ _ (begun-item (c .before .before .before .before .before .before .before .before .before .before .before .before .before .before .before .before .args .form) (c .before .before .before .before .before .before .before .before .before .before .before .before .before .before .before .before .args .s .now) (c .before .before .before .before .before .before .before .before .before .before .run-end .result) (c .before .before .before .before .before .before .before .before .before .if1 .left) ((measuring-run (c .before .before .before .before .before .before .before .before .before .before .before .before .before .before .before .before .args .form) (c .before .before .before .before .before .before .before .before .before .before .before .before .before .before .before .before .args .s .now) (c .before .before .before .before .before .before .before .before .before .before .before .loop .at) (c .before .before .before .before .before .before .before .before .before .before .before .loop .count) (c .before .before .before .before .before .before .before .before .before .before .before .loop .inv) (c .before .before .before .before .before .before .before .before .before .before .before .before .before .before .is-bytes .ensures) (c .before .before .before .before .before .before .before .before .before .before .run-end .ensures)) .sound) _ (c .before .before .before .before .before .begin-at .ensures) _ _ (c .before .before .before .item .given .1)) (ap (λ (r : Encoded). r .len) (c .before .item-bytes .ensures))) in omega (arith, i .less, i .inside)
-
-loop-less-2 : tie.Need-loop-less-2 Inv-loop μ-loop
-loop-less-2 c = omega (arith, begun-past (c .before .before .before .before .before .before .before .before .before .before .before .before .before .before .before .before .args .form) (c .before .before .before .before .before .before .before .before .before .before .before .before .before .before .before .before .args .s .now) (c .before .before .before .before .before .before .before .before .before .before .run-end .result) (c .before .before .before .before .before .before .before .before .before .if1 .left) ((measuring-run (c .before .before .before .before .before .before .before .before .before .before .before .before .before .before .before .before .args .form) (c .before .before .before .before .before .before .before .before .before .before .before .before .before .before .before .before .args .s .now) (c .before .before .before .before .before .before .before .before .before .before .before .loop .at) (c .before .before .before .before .before .before .before .before .before .before .before .loop .count) (c .before .before .before .before .before .before .before .before .before .before .before .loop .inv) (c .before .before .before .before .before .before .before .before .before .before .before .before .before .before .is-bytes .ensures) (c .before .before .before .before .before .before .before .before .before .before .run-end .ensures)) .sound) _ (c .before .before .before .before .before .begin-at .ensures), begun-room (c .before .before .before .before .before .before .before .before .before .before .before .before .before .before .before .before .args .form) (c .before .before .before .before .before .before .before .before .before .before .before .before .before .before .before .before .args .s .now) (c .before .before .before .before .before .before .before .before .before .before .run-end .result) (c .before .before .before .before .before .before .before .before .before .if1 .left) ((measuring-run (c .before .before .before .before .before .before .before .before .before .before .before .before .before .before .before .before .args .form) (c .before .before .before .before .before .before .before .before .before .before .before .before .before .before .before .before .args .s .now) (c .before .before .before .before .before .before .before .before .before .before .before .loop .at) (c .before .before .before .before .before .before .before .before .before .before .before .loop .count) (c .before .before .before .before .before .before .before .before .before .before .before .loop .inv) (c .before .before .before .before .before .before .before .before .before .before .before .before .before .before .is-bytes .ensures) (c .before .before .before .before .before .before .before .before .before .before .run-end .ensures)) .sound) _ (c .before .before .before .before .before .begin-at .ensures), ap placeOf (c .before .before .before .item .given .1), c .before .before .before .before .before .before .before .before .before .before .run-end .ensures)
-
-loop-again-2 : tie.Need-loop-again-2 Inv-loop μ-loop
-loop-again-2 c = (measuring-next _ _ _ _ (measuring-run (c .before .before .before .before .before .before .before .before .before .before .before .before .before .before .before .before .args .form) (c .before .before .before .before .before .before .before .before .before .before .before .before .before .before .before .before .args .s .now) (c .before .before .before .before .before .before .before .before .before .before .before .loop .at) (c .before .before .before .before .before .before .before .before .before .before .before .loop .count) (c .before .before .before .before .before .before .before .before .before .before .before .loop .inv) (c .before .before .before .before .before .before .before .before .before .before .before .before .before .before .is-bytes .ensures) (c .before .before .before .before .before .before .before .before .before .before .run-end .ensures)) _ _ _ (begun-item (c .before .before .before .before .before .before .before .before .before .before .before .before .before .before .before .before .args .form) (c .before .before .before .before .before .before .before .before .before .before .before .before .before .before .before .before .args .s .now) (c .before .before .before .before .before .before .before .before .before .before .run-end .result) (c .before .before .before .before .before .before .before .before .before .if1 .left) ((measuring-run (c .before .before .before .before .before .before .before .before .before .before .before .before .before .before .before .before .args .form) (c .before .before .before .before .before .before .before .before .before .before .before .before .before .before .before .before .args .s .now) (c .before .before .before .before .before .before .before .before .before .before .before .loop .at) (c .before .before .before .before .before .before .before .before .before .before .before .loop .count) (c .before .before .before .before .before .before .before .before .before .before .before .loop .inv) (c .before .before .before .before .before .before .before .before .before .before .before .before .before .before .is-bytes .ensures) (c .before .before .before .before .before .before .before .before .before .before .run-end .ensures)) .sound) _ (c .before .before .before .before .before .begin-at .ensures) _ _ (c .before .before .before .item .given .1)) (ap (λ (r : Encoded). r .len) (c .before .item-bytes .ensures)))
-
-enum-known-end : tie.Need-enum-known-end Inv-loop μ-loop
-enum-known-end c = search needs
+add-count-4 : tie.Need-add-count-4 Inv-loop μ-loop
+add-count-4 c = let i = (measuring-next _ _ _ _ (measuring-run (c .before .before .before .before .before .before .before .before .before .before .before .before .before .before .before .before .before .args .form) (c .before .before .before .before .before .before .before .before .before .before .before .before .before .before .before .before .before .args .s .now) (c .before .before .before .before .before .before .before .before .before .before .before .before .loop .at) (c .before .before .before .before .before .before .before .before .before .before .before .before .loop .count) (c .before .before .before .before .before .before .before .before .before .before .before .before .loop .inv) (c .before .before .before .before .before .before .before .before .before .before .before .before .before .before .before .is-bytes .ensures) (c .before .before .before .before .before .before .before .before .before .before .before .run-end .ensures)) _ _ _ (begun-item (c .before .before .before .before .before .before .before .before .before .before .before .before .before .before .before .before .before .args .form) (c .before .before .before .before .before .before .before .before .before .before .before .before .before .before .before .before .before .args .s .now) (c .before .before .before .before .before .before .before .before .before .before .before .run-end .result) (c .before .before .before .before .before .before .before .before .before .before .if1 .left) ((measuring-run (c .before .before .before .before .before .before .before .before .before .before .before .before .before .before .before .before .before .args .form) (c .before .before .before .before .before .before .before .before .before .before .before .before .before .before .before .before .before .args .s .now) (c .before .before .before .before .before .before .before .before .before .before .before .before .loop .at) (c .before .before .before .before .before .before .before .before .before .before .before .before .loop .count) (c .before .before .before .before .before .before .before .before .before .before .before .before .loop .inv) (c .before .before .before .before .before .before .before .before .before .before .before .before .before .before .before .is-bytes .ensures) (c .before .before .before .before .before .before .before .before .before .before .before .run-end .ensures)) .sound) _ (c .before .before .before .before .begin-at .ensures) _ _ (c .before .before .value .given .1)) (c .item-len2 .ensures)) in omega (arith, i .less, i .inside)
 
 loop-less-3 : tie.Need-loop-less-3 Inv-loop μ-loop
-loop-less-3 c = omega (arith, begun-past (c .before .before .before .before .before .before .before .before .before .before .before .before .before .before .args .form) (c .before .before .before .before .before .before .before .before .before .before .before .before .before .before .args .s .now) (c .before .before .before .before .before .before .before .before .run-end .result) (c .before .before .before .before .before .before .before .if1 .left) ((measuring-run (c .before .before .before .before .before .before .before .before .before .before .before .before .before .before .args .form) (c .before .before .before .before .before .before .before .before .before .before .before .before .before .before .args .s .now) (c .before .before .before .before .before .before .before .before .before .loop .at) (c .before .before .before .before .before .before .before .before .before .loop .count) (c .before .before .before .before .before .before .before .before .before .loop .inv) (c .before .before .before .before .before .before .before .before .before .before .before .before .is-bytes .ensures) (c .before .before .before .before .before .before .before .before .run-end .ensures)) .sound) _ (c .before .before .before .begin-at .ensures), begun-room (c .before .before .before .before .before .before .before .before .before .before .before .before .before .before .args .form) (c .before .before .before .before .before .before .before .before .before .before .before .before .before .before .args .s .now) (c .before .before .before .before .before .before .before .before .run-end .result) (c .before .before .before .before .before .before .before .if1 .left) ((measuring-run (c .before .before .before .before .before .before .before .before .before .before .before .before .before .before .args .form) (c .before .before .before .before .before .before .before .before .before .before .before .before .before .before .args .s .now) (c .before .before .before .before .before .before .before .before .before .loop .at) (c .before .before .before .before .before .before .before .before .before .loop .count) (c .before .before .before .before .before .before .before .before .before .loop .inv) (c .before .before .before .before .before .before .before .before .before .before .before .before .is-bytes .ensures) (c .before .before .before .before .before .before .before .before .run-end .ensures)) .sound) _ (c .before .before .before .begin-at .ensures), ap placeOf (c .before .end .given .1), c .before .before .before .before .before .before .before .before .run-end .ensures)
+loop-less-3 c = omega (arith, begun-past (c .before .before .before .before .before .before .before .before .before .before .before .before .before .before .before .before .before .args .form) (c .before .before .before .before .before .before .before .before .before .before .before .before .before .before .before .before .before .args .s .now) (c .before .before .before .before .before .before .before .before .before .before .before .run-end .result) (c .before .before .before .before .before .before .before .before .before .before .if1 .left) ((measuring-run (c .before .before .before .before .before .before .before .before .before .before .before .before .before .before .before .before .before .args .form) (c .before .before .before .before .before .before .before .before .before .before .before .before .before .before .before .before .before .args .s .now) (c .before .before .before .before .before .before .before .before .before .before .before .before .loop .at) (c .before .before .before .before .before .before .before .before .before .before .before .before .loop .count) (c .before .before .before .before .before .before .before .before .before .before .before .before .loop .inv) (c .before .before .before .before .before .before .before .before .before .before .before .before .before .before .before .is-bytes .ensures) (c .before .before .before .before .before .before .before .before .before .before .before .run-end .ensures)) .sound) _ (c .before .before .before .before .begin-at .ensures), begun-room (c .before .before .before .before .before .before .before .before .before .before .before .before .before .before .before .before .before .args .form) (c .before .before .before .before .before .before .before .before .before .before .before .before .before .before .before .before .before .args .s .now) (c .before .before .before .before .before .before .before .before .before .before .before .run-end .result) (c .before .before .before .before .before .before .before .before .before .before .if1 .left) ((measuring-run (c .before .before .before .before .before .before .before .before .before .before .before .before .before .before .before .before .before .args .form) (c .before .before .before .before .before .before .before .before .before .before .before .before .before .before .before .before .before .args .s .now) (c .before .before .before .before .before .before .before .before .before .before .before .before .loop .at) (c .before .before .before .before .before .before .before .before .before .before .before .before .loop .count) (c .before .before .before .before .before .before .before .before .before .before .before .before .loop .inv) (c .before .before .before .before .before .before .before .before .before .before .before .before .before .before .before .is-bytes .ensures) (c .before .before .before .before .before .before .before .before .before .before .before .run-end .ensures)) .sound) _ (c .before .before .before .before .begin-at .ensures), ap placeOf (c .before .before .value .given .1), c .before .before .before .before .before .before .before .before .before .before .before .run-end .ensures)
 
 loop-again-3 : tie.Need-loop-again-3 Inv-loop μ-loop
-loop-again-3 c = measuring-same _ _ _ _ (measuring-run (c .before .before .before .before .before .before .before .before .before .before .before .before .before .before .args .form) (c .before .before .before .before .before .before .before .before .before .before .before .before .before .before .args .s .now) (c .before .before .before .before .before .before .before .before .before .loop .at) (c .before .before .before .before .before .before .before .before .before .loop .count) (c .before .before .before .before .before .before .before .before .before .loop .inv) (c .before .before .before .before .before .before .before .before .before .before .before .before .is-bytes .ensures) (c .before .before .before .before .before .before .before .before .run-end .ensures)) _ (begun-skipped (c .before .before .before .before .before .before .before .before .before .before .before .before .before .before .args .form) (c .before .before .before .before .before .before .before .before .before .before .before .before .before .before .args .s .now) (c .before .before .before .before .before .before .before .before .run-end .result) (c .before .before .before .before .before .before .before .if1 .left) ((measuring-run (c .before .before .before .before .before .before .before .before .before .before .before .before .before .before .args .form) (c .before .before .before .before .before .before .before .before .before .before .before .before .before .before .args .s .now) (c .before .before .before .before .before .before .before .before .before .loop .at) (c .before .before .before .before .before .before .before .before .before .loop .count) (c .before .before .before .before .before .before .before .before .before .loop .inv) (c .before .before .before .before .before .before .before .before .before .before .before .before .is-bytes .ensures) (c .before .before .before .before .before .before .before .before .run-end .ensures)) .sound) _ (c .before .before .before .begin-at .ensures) _ (c .before .end .given .1))
+loop-again-3 c = (measuring-next _ _ _ _ (measuring-run (c .before .before .before .before .before .before .before .before .before .before .before .before .before .before .before .before .before .args .form) (c .before .before .before .before .before .before .before .before .before .before .before .before .before .before .before .before .before .args .s .now) (c .before .before .before .before .before .before .before .before .before .before .before .before .loop .at) (c .before .before .before .before .before .before .before .before .before .before .before .before .loop .count) (c .before .before .before .before .before .before .before .before .before .before .before .before .loop .inv) (c .before .before .before .before .before .before .before .before .before .before .before .before .before .before .before .is-bytes .ensures) (c .before .before .before .before .before .before .before .before .before .before .before .run-end .ensures)) _ _ _ (begun-item (c .before .before .before .before .before .before .before .before .before .before .before .before .before .before .before .before .before .args .form) (c .before .before .before .before .before .before .before .before .before .before .before .before .before .before .before .before .before .args .s .now) (c .before .before .before .before .before .before .before .before .before .before .before .run-end .result) (c .before .before .before .before .before .before .before .before .before .before .if1 .left) ((measuring-run (c .before .before .before .before .before .before .before .before .before .before .before .before .before .before .before .before .before .args .form) (c .before .before .before .before .before .before .before .before .before .before .before .before .before .before .before .before .before .args .s .now) (c .before .before .before .before .before .before .before .before .before .before .before .before .loop .at) (c .before .before .before .before .before .before .before .before .before .before .before .before .loop .count) (c .before .before .before .before .before .before .before .before .before .before .before .before .loop .inv) (c .before .before .before .before .before .before .before .before .before .before .before .before .before .before .before .is-bytes .ensures) (c .before .before .before .before .before .before .before .before .before .before .before .run-end .ensures)) .sound) _ (c .before .before .before .before .begin-at .ensures) _ _ (c .before .before .value .given .1)) (c .item-len2 .ensures))
+
+enum-known-next : tie.Need-enum-known-next Inv-loop μ-loop
+enum-known-next c = search needs
+
+loop-less-4 : tie.Need-loop-less-4 Inv-loop μ-loop
+loop-less-4 c = omega (arith, begun-past (c .before .before .before .before .before .before .before .before .before .before .before .before .before .before .before .before .args .form) (c .before .before .before .before .before .before .before .before .before .before .before .before .before .before .before .before .args .s .now) (c .before .before .before .before .before .before .before .before .before .before .run-end .result) (c .before .before .before .before .before .before .before .before .before .if1 .left) ((measuring-run (c .before .before .before .before .before .before .before .before .before .before .before .before .before .before .before .before .args .form) (c .before .before .before .before .before .before .before .before .before .before .before .before .before .before .before .before .args .s .now) (c .before .before .before .before .before .before .before .before .before .before .before .loop .at) (c .before .before .before .before .before .before .before .before .before .before .before .loop .count) (c .before .before .before .before .before .before .before .before .before .before .before .loop .inv) (c .before .before .before .before .before .before .before .before .before .before .before .before .before .before .is-bytes .ensures) (c .before .before .before .before .before .before .before .before .before .before .run-end .ensures)) .sound) _ (c .before .before .before .begin-at .ensures), begun-room (c .before .before .before .before .before .before .before .before .before .before .before .before .before .before .before .before .args .form) (c .before .before .before .before .before .before .before .before .before .before .before .before .before .before .before .before .args .s .now) (c .before .before .before .before .before .before .before .before .before .before .run-end .result) (c .before .before .before .before .before .before .before .before .before .if1 .left) ((measuring-run (c .before .before .before .before .before .before .before .before .before .before .before .before .before .before .before .before .args .form) (c .before .before .before .before .before .before .before .before .before .before .before .before .before .before .before .before .args .s .now) (c .before .before .before .before .before .before .before .before .before .before .before .loop .at) (c .before .before .before .before .before .before .before .before .before .before .before .loop .count) (c .before .before .before .before .before .before .before .before .before .before .before .loop .inv) (c .before .before .before .before .before .before .before .before .before .before .before .before .before .before .is-bytes .ensures) (c .before .before .before .before .before .before .before .before .before .before .run-end .ensures)) .sound) _ (c .before .before .before .begin-at .ensures), ap placeOf (c .before .next .given .1), c .before .before .before .before .before .before .before .before .before .before .run-end .ensures)
+
+loop-again-4 : tie.Need-loop-again-4 Inv-loop μ-loop
+loop-again-4 c = measuring-same _ _ _ _ (measuring-run (c .before .before .before .before .before .before .before .before .before .before .before .before .before .before .before .before .args .form) (c .before .before .before .before .before .before .before .before .before .before .before .before .before .before .before .before .args .s .now) (c .before .before .before .before .before .before .before .before .before .before .before .loop .at) (c .before .before .before .before .before .before .before .before .before .before .before .loop .count) (c .before .before .before .before .before .before .before .before .before .before .before .loop .inv) (c .before .before .before .before .before .before .before .before .before .before .before .before .before .before .is-bytes .ensures) (c .before .before .before .before .before .before .before .before .before .before .run-end .ensures)) _ (begun-skipped (c .before .before .before .before .before .before .before .before .before .before .before .before .before .before .before .before .args .form) (c .before .before .before .before .before .before .before .before .before .before .before .before .before .before .before .before .args .s .now) (c .before .before .before .before .before .before .before .before .before .before .run-end .result) (c .before .before .before .before .before .before .before .before .before .if1 .left) ((measuring-run (c .before .before .before .before .before .before .before .before .before .before .before .before .before .before .before .before .args .form) (c .before .before .before .before .before .before .before .before .before .before .before .before .before .before .before .before .args .s .now) (c .before .before .before .before .before .before .before .before .before .before .before .loop .at) (c .before .before .before .before .before .before .before .before .before .before .before .loop .count) (c .before .before .before .before .before .before .before .before .before .before .before .loop .inv) (c .before .before .before .before .before .before .before .before .before .before .before .before .before .before .is-bytes .ensures) (c .before .before .before .before .before .before .before .before .before .before .run-end .ensures)) .sound) _ (c .before .before .before .begin-at .ensures) _ (c .before .next .given .1))
 
 enum-known-number : tie.Need-enum-known-number Inv-loop μ-loop
 enum-known-number c = search needs
 
+stopped-requires : tie.Need-stopped-requires Inv-loop μ-loop
+stopped-requires c κs = search needs
+
 returns-2 : tie.Need-returns-2 Inv-loop μ-loop
-returns-2 c = measured-bad _ _ _ _ (measuring-run (c .before .before .before .before .before .before .before .before .before .before .before .before .before .before .args .form) (c .before .before .before .before .before .before .before .before .before .before .before .before .before .before .args .s .now) (c .before .before .before .before .before .before .before .before .before .loop .at) (c .before .before .before .before .before .before .before .before .before .loop .count) (c .before .before .before .before .before .before .before .before .before .loop .inv) (c .before .before .before .before .before .before .before .before .before .before .before .before .is-bytes .ensures) (c .before .before .before .before .before .before .before .before .run-end .ensures)) _ _ (begun-bad (c .before .before .before .before .before .before .before .before .before .before .before .before .before .before .args .form) (c .before .before .before .before .before .before .before .before .before .before .before .before .before .before .args .s .now) (c .before .before .before .before .before .before .before .before .run-end .result) (c .before .before .before .before .before .before .before .if1 .left) ((measuring-run (c .before .before .before .before .before .before .before .before .before .before .before .before .before .before .args .form) (c .before .before .before .before .before .before .before .before .before .before .before .before .before .before .args .s .now) (c .before .before .before .before .before .before .before .before .before .loop .at) (c .before .before .before .before .before .before .before .before .before .loop .count) (c .before .before .before .before .before .before .before .before .before .loop .inv) (c .before .before .before .before .before .before .before .before .before .before .before .before .is-bytes .ensures) (c .before .before .before .before .before .before .before .before .run-end .ensures)) .sound) _ (c .before .before .before .begin-at .ensures) _ _ (c .before .number .given .1))
+returns-2 c = c .stopped .ensures ∙ measured-bad _ _ _ _ (measuring-run (c .before .before .before .before .before .before .before .before .before .before .before .before .before .before .before .before .before .args .form) (c .before .before .before .before .before .before .before .before .before .before .before .before .before .before .before .before .before .args .s .now) (c .before .before .before .before .before .before .before .before .before .before .before .before .loop .at) (c .before .before .before .before .before .before .before .before .before .before .before .before .loop .count) (c .before .before .before .before .before .before .before .before .before .before .before .before .loop .inv) (c .before .before .before .before .before .before .before .before .before .before .before .before .before .before .before .is-bytes .ensures) (c .before .before .before .before .before .before .before .before .before .before .before .run-end .ensures)) _ _ (begun-bad (c .before .before .before .before .before .before .before .before .before .before .before .before .before .before .before .before .before .args .form) (c .before .before .before .before .before .before .before .before .before .before .before .before .before .before .before .before .before .args .s .now) (c .before .before .before .before .before .before .before .before .before .before .before .run-end .result) (c .before .before .before .before .before .before .before .before .before .before .if1 .left) ((measuring-run (c .before .before .before .before .before .before .before .before .before .before .before .before .before .before .before .before .before .args .form) (c .before .before .before .before .before .before .before .before .before .before .before .before .before .before .before .before .before .args .s .now) (c .before .before .before .before .before .before .before .before .before .before .before .before .loop .at) (c .before .before .before .before .before .before .before .before .before .before .before .before .loop .count) (c .before .before .before .before .before .before .before .before .before .before .before .before .loop .inv) (c .before .before .before .before .before .before .before .before .before .before .before .before .before .before .before .is-bytes .ensures) (c .before .before .before .before .before .before .before .before .before .before .before .run-end .ensures)) .sound) _ (c .before .before .before .before .begin-at .ensures) _ _ (c .before .before .number .given .1))
 
 pub measure-spec : {M : Type 1} → statement M
 measure-spec =
@@ -111,14 +134,22 @@ measure-spec =
     add-at
     loop-less
     loop-again
-    begin-at-requires
-    enum-known-item
-    item-bytes-requires
+    long-at-requires
+    item-len-requires
     add-count-3
+    cast-at
+    add-at-2
     loop-less-2
     loop-again-2
-    enum-known-end
+    begin-at-requires
+    enum-known-value
+    item-len-requires-2
+    add-count-4
     loop-less-3
     loop-again-3
+    enum-known-next
+    loop-less-4
+    loop-again-4
     enum-known-number
+    stopped-requires
     returns-2)
