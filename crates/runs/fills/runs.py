@@ -32,12 +32,15 @@ fill('escaped_at', {
 fill('short_escape', {
     **{'returns' + ('' if k == 1 else f'-{k}'): ('shortOf', f'sym (ap shortOf (@match .keys{k}))') for k in range(1, 10)},
     'returns-10': 'sym (no-short (@Start .args .v) ' + keys(9) + ')'})
+fill('hex_digit', {
+    **{'returns' + k: 'λ h. absurd (omega arith)' for k in ('', '-3', '-5', '-7')},
+    'returns-2': 'is-digit _ (@if1 .left) (@if2 .taken)',
+    'returns-4': 'is-high _ (@if3 .left) (@if4 .taken)',
+    'returns-6': 'is-low _ (@if5 .left) (@if6 .taken)'})
 fill('hex_at', {
     **{'returns' + k: '(nothing _ _, omega arith)' for k in ('', '-2', '-3', '-4', '-5')},
-    'mul-x': 'omega (arith, hex-small (@number .result), @hex-value .ensures)', 'add-x': 'omega (arith, $small$)', 'mul-result': 'omega (arith, $small$)', 'add-result': 'omega (arith, $small$)',
-    'returns-6': '(hex-packed $s$ $at$ _ _ _ _ _ (@number .ensures) (@number2 .ensures) (omega arith) $a$ $b$ (@hex-value .ensures) (@hex-value2 .ensures) refl, omega arith)'},
-    macros=dict(S, a='(sym (@is-ascii-hexdigit .ensures) ∙ not-false _ (@if3 .left))', b='(sym (@is-ascii-hexdigit2 .ensures) ∙ not-false _ (@if4 .left))',
-                small='hex-small (@number .result), hex-small (@number2 .result), @hex-value .ensures, @hex-value2 .ensures'))
+    'returns-6': '(hex-packed $s$ $at$ _ _ _ _ _ refl refl (omega arith) ($a$ .digit) ($b$ .digit) ($a$ .value) ($b$ .value) refl, omega arith)'},
+    macros=dict(S, a='(@hex-digit .ensures (omega (arith, @if3 .left)))', b='(@hex-digit2 .ensures (omega (arith, @if4 .left)))'))
 fill('unicode_closed', {
     **{'returns' + k: 'λ h. absurd (omega arith)' for k in ('', '-2', '-3')},
     **{k: 'omega (arith, scalar-most (@Start .args .x) $scalar$)' for k in ('mul-result', 'add-result', 'add-result-2')},
@@ -47,11 +50,10 @@ fill('unicode_at', {
     **{'returns' + k: 'nothing _ _' for k in ('', '-2', '-3', '-5', '-6', '-7')},
     'Inv-loop': 'Digits s at left i some x', 'μ-loop': 'left - i',
     'loop-holds': 'digits-first _ _ _ (omega arith) (omega arith) (@if3 .left)',
-    'shared-slice-read-number': 'omega (arith, @loop .inv .inside)',
+    'shared-slice-read-v': 'omega (arith, @loop .inv .inside)',
     'returns-4': 'digits-packed $digit$ _ (@if4 .taken) (@unicode-closed .ensures)',
-    'add-x': 'omega (arith, hex-small (@number .result), @hex-value .ensures)',
-    'loop-again': 'digits-next $digit$ (@if4 .left) (sym (@is-ascii-hexdigit .ensures) ∙ not-false _ (@if5 .left)) (@if6 .left) _ (@hex-value .ensures)'},
-    macros=dict(S, digit='$s$ $at$ _ _ _ _ (@loop .inv) (@loop-test .taken) _ (@number .ensures)'))
+    'loop-again': 'digits-next $digit$ (@if4 .left) ($hex$ .digit) (@if6 .left) _ ($hex$ .value)'},
+    macros=dict(S, digit='$s$ $at$ _ _ _ _ (@loop .inv) (@loop-test .taken) _ refl', hex='(@hex-digit .ensures (omega (arith, @if5 .left)))'))
 fill('long_at', {
     'returns': 'byte-hex _ _ _ _ _ (@escaped-at .ensures) $bytes$ (@if2 .taken) (@hex-at .ensures .0)',
     'returns-2': 'nothing _ _',

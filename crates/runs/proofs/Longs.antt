@@ -1,11 +1,12 @@
 -- Escapes that are read by value are what document 01 gives them. Assumes nothing.
-use Prim.Native.Nat.{ℕ, _+_, _*_, _/_, _≤_, _<_}
+use Prim.Native.Nat.{ℕ, _+_, _-_, _*_, _/_, _≤_, _<_}
 use mathlib.Core.Path.{_≡_, refl, sym, ap, ap₂, _∙_, subst}
 use mathlib.Core.List.{List, []}
 use mathlib.Core.Bool.{Bool, true, false, not}
 use native.Mathlib.Omega.{arith}
 use lib.ListN.{getD, length}
 use borrow.Author.Tests.{le-leb, lt-leb}
+use Rattle.digits.proofs.Hex.{hex-digit, hex-high, hex-low}
 use Rattle.digits.specs.Digits.{hexValue, isHexDigit}
 use Rattle.escapes.proofs.Escapes.{byte-turn, char-turn, close-yes, digits-close, digits-more, hex-small, hex-yes, second-yes, unicode-open}
 use Rattle.escapes.specs.Escapes.{byteTurn, charTurn, digitsOf, hexOf, lowOnly, shiftIn, unicodeOf}
@@ -17,7 +18,7 @@ use Rattle.items.specs.declared.Form.{Form}
 use Rattle.laws.proofs.Cases.{both-false, never, split-le}
 use Rattle.laws.specs.Bools.{same}
 use Rattle.runs.proofs.Shorts.{escaped-inv}
-use Rattle.runs.specs.Runs.{Closed, Packed, beginsOf, escapedAt}
+use Rattle.runs.specs.Runs.{Closed, Hex, Packed, beginsOf, escapedAt}
 use Rattle.text.proofs.Decode.{Step, step-ascii}
 use Rattle.text.specs.Utf8.{rest}
 
@@ -25,6 +26,20 @@ hex-ascii : (v : ℕ) → isHexDigit v ≡ true → v ≤ 0x7f
 hex-ascii v h =
     split-le v 0x7f (λ l. l)
     (λ l. never (let z : isHexDigit v ≡ false = simp (lt-leb v 0x39 (omega arith), lt-leb v 0x66 (omega arith), lt-leb v 0x46 (omega arith), both-false) in cc))
+
+module _ (v : ℕ) where
+  pub is-digit : 0x30 ≤ v → v ≤ 0x39 → Hex v (v - 0x30)
+  is-digit l h z = let d : isHexDigit v ≡ true = simp (le-leb 0x30 v l, le-leb v 0x39 h) in record { digit = d; value = hex-digit v d h .1 }
+
+  pub is-high : 0x41 ≤ v → v ≤ 0x46 → Hex v (v - 0x41 + 10)
+  is-high l h z =
+      let d : isHexDigit v ≡ true = simp (lt-leb v 0x39 (omega arith), lt-leb 0x61 v (omega arith), le-leb 0x41 v l, le-leb v 0x46 h, both-false) in
+      record { digit = d; value = hex-high v d (omega arith) h .1 }
+
+  pub is-low : 0x61 ≤ v → v ≤ 0x66 → Hex v (v - 0x61 + 10)
+  is-low l h z =
+      let d : isHexDigit v ≡ true = simp (lt-leb v 0x39 (omega arith), le-leb 0x61 v l, le-leb v 0x66 h, both-false) in
+      record { digit = d; value = hex-low v d (omega arith) .1 }
 
 -- 0 says nothing
 pub nothing : (p : ℕ) (e : Escape) → Packed p e 0

@@ -5,6 +5,7 @@ use mathlib.Core.List.{List, [], _∷_}
 use mathlib.Core.Bool.{Bool, true, false}
 use lib.Dec.{leb, eqb}
 use lib.ListN.{getD}
+use Rattle.digits.specs.Digits.{hexValue, isHexDigit}
 use Rattle.encoding.specs.Encode.{isScalar}
 use Rattle.escapes.specs.declared.Escape.{Escape}
 use Rattle.escapes.specs.declared.Escape.the-variants.{Item, Skipped}
@@ -70,3 +71,11 @@ pub record IsClosed (some : Bool) (x i r : ℕ) : Type 0 where
 
 abbrev pub Closed : Bool → ℕ → ℕ → ℕ → Type 0
 Closed some x i r = 0 < r → IsClosed some x i r
+
+-- r is what the hex digit v stands for, unless it is 16 or more: one test for both, where `is_ascii_hexdigit` and `hex_value` are two
+pub record IsHex (v r : ℕ) : Type 0 where
+  pub digit : isHexDigit v ≡ true
+  pub value : r ≡ hexValue v
+
+abbrev pub Hex : ℕ → ℕ → Type 0
+Hex v r = r < 16 → IsHex v r

@@ -1,6 +1,4 @@
 // Fast ways through a body: runs of bytes that stand for themselves, and escapes by value. Proved equal to the definitions in specs/.
-use digits::hex_value;
-use digits::is_ascii_hexdigit;
 use escapes::Escape;
 use items::Form;
 use items::is_bytes;
@@ -11,7 +9,7 @@ ghost use Prim.Native.Nat.{_+_, _/_, _≤_};
 ghost use mathlib.Core.Path.{_≡_};
 ghost use lib.ListN.{drop, length};
 ghost use Rattle.escapes.specs.Escapes.{hexOf, unicodeOf};
-ghost use Rattle.runs.specs.Runs.{Closed, Packed, asciiOf, bareOf, beginsOf, escapedAt, limitOf, runOf, shortOf};
+ghost use Rattle.runs.specs.Runs.{Closed, Hex, Packed, asciiOf, bareOf, beginsOf, escapedAt, limitOf, runOf, shortOf};
 ghost use Rattle.text.specs.Utf8.{rest};
 
 // The place of the first backslash, or the end. One test a loop: of two the compiler makes longer code than two loops have.
@@ -93,10 +91,30 @@ pub fn short_limit(template: bool) -> u8
     if template { 0xff } else { 0x80 }
 }
 
-fn number(b: u8) -> u32
-    ensures { λ r. ⌜ r ≡ b ⌝ }
+// What a hex digit stands for; 16: the byte is none.
+fn hex_digit(b: u8) -> u32
+    ensures { λ r. ⌜ Hex b r ⌝ }
 {
-    b as u32
+    let v = b as u32;
+    if v < 0x30 {
+        return 16;
+    }
+    if v <= 0x39 {
+        return v - 0x30;
+    }
+    if v < 0x41 {
+        return 16;
+    }
+    if v <= 0x46 {
+        return v - 0x41 + 10;
+    }
+    if v < 0x61 {
+        return 16;
+    }
+    if v <= 0x66 {
+        return v - 0x61 + 10;
+    }
+    16
 }
 
 // The escape at a place as \x with two hex digits that stand for no more than `most`, in one number; 0: it is none.
@@ -109,15 +127,15 @@ fn hex_at(s: &[u8], at: usize, most: u32) -> u32
     if s.len() - at < 4 {
         return 0;
     }
-    let a = number(s[at + 2]);
-    if !is_ascii_hexdigit(a) {
+    let a = hex_digit(s[at + 2]);
+    if 15 < a {
         return 0;
     }
-    let b = number(s[at + 3]);
-    if !is_ascii_hexdigit(b) {
+    let b = hex_digit(s[at + 3]);
+    if 15 < b {
         return 0;
     }
-    let x = hex_value(a) * 16 + hex_value(b);
+    let x = a * 16 + b;
     if most < x {
         return 0;
     }
@@ -142,18 +160,19 @@ fn unicode_at(s: &[u8], at: usize) -> u32
     let mut some = false;
     let mut x: u32 = 0;
     while i < left {
-        let v = number(s[at + i]);
+        let v = s[at + i];
         if v == 0x7d {
             return unicode_closed(some, x, i);
         }
-        if !is_ascii_hexdigit(v) {
+        let d = hex_digit(v);
+        if 15 < d {
             return 0;
         }
         if 0xfffff < x {
             return 0;
         }
         some = true;
-        x = x * 16 + hex_value(v);
+        x = x * 16 + d;
         i = i + 1;
     }
     0

@@ -1,8 +1,6 @@
-use mathlib.Core.Path.{refl, sym, _∙_}
+use mathlib.Core.Path.{refl}
 use native.Mathlib.Omega.{arith}
 use borrow.Author.Needs.{needs}
-use borrow.Author.Tests.{not-false}
-use Rattle.escapes.proofs.Escapes.{hex-small}
 use Rattle.runs.proofs.Longs.{hex-packed, nothing}
 use Rattle.runs.proofs.hex_at.Statement.{statement}
 use Rattle.runs.proofs.hex_at.Tie as tie
@@ -16,59 +14,47 @@ sub-if2 c = search needs
 returns-2 : tie.Need-returns-2
 returns-2 c = (nothing _ _, omega arith)
 
-add-number : tie.Need-add-number
-add-number c = search needs
+add-hex-digit : tie.Need-add-hex-digit
+add-hex-digit c = search needs
 
-shared-slice-read-number : tie.Need-shared-slice-read-number
-shared-slice-read-number c = search needs
+shared-slice-read-hex-digit : tie.Need-shared-slice-read-hex-digit
+shared-slice-read-hex-digit c = search needs
 
-number-requires : tie.Need-number-requires
-number-requires c κs = search needs
-
-is-ascii-hexdigit-requires : tie.Need-is-ascii-hexdigit-requires
-is-ascii-hexdigit-requires c κs = search needs
+hex-digit-requires : tie.Need-hex-digit-requires
+hex-digit-requires c κs = search needs
 
 returns-3 : tie.Need-returns-3
 returns-3 c = (nothing _ _, omega arith)
 
-add-number-2 : tie.Need-add-number-2
-add-number-2 c = search needs
+add-hex-digit-2 : tie.Need-add-hex-digit-2
+add-hex-digit-2 c = search needs
 
-shared-slice-read-number-2 : tie.Need-shared-slice-read-number-2
-shared-slice-read-number-2 c = search needs
+shared-slice-read-hex-digit-2 : tie.Need-shared-slice-read-hex-digit-2
+shared-slice-read-hex-digit-2 c = search needs
 
-number-requires-2 : tie.Need-number-requires-2
-number-requires-2 c κs = search needs
-
-is-ascii-hexdigit-requires-2 : tie.Need-is-ascii-hexdigit-requires-2
-is-ascii-hexdigit-requires-2 c κs = search needs
+hex-digit-requires-2 : tie.Need-hex-digit-requires-2
+hex-digit-requires-2 c κs = search needs
 
 returns-4 : tie.Need-returns-4
 returns-4 c = (nothing _ _, omega arith)
 
-hex-value-requires : tie.Need-hex-value-requires
-hex-value-requires c κs = search needs
-
 mul-x : tie.Need-mul-x
-mul-x c = omega (arith, hex-small (c .before .before .before .before .before .before .before .number .result), c .hex-value .ensures)
-
-hex-value-requires-2 : tie.Need-hex-value-requires-2
-hex-value-requires-2 c κs = search needs
+mul-x c = search needs
 
 add-x : tie.Need-add-x
-add-x c = omega (arith, hex-small (c .before .before .before .before .before .before .before .before .number .result), hex-small (c .before .before .before .before .number2 .result), c .before .hex-value .ensures, c .hex-value2 .ensures)
+add-x c = search needs
 
 returns-5 : tie.Need-returns-5
 returns-5 c = (nothing _ _, omega arith)
 
 mul-result : tie.Need-mul-result
-mul-result c = omega (arith, hex-small (c .before .before .before .before .before .before .before .before .before .number .result), hex-small (c .before .before .before .before .before .number2 .result), c .before .before .hex-value .ensures, c .before .hex-value2 .ensures)
+mul-result c = search needs
 
 add-result : tie.Need-add-result
-add-result c = omega (arith, hex-small (c .before .before .before .before .before .before .before .before .before .number .result), hex-small (c .before .before .before .before .before .number2 .result), c .before .before .hex-value .ensures, c .before .hex-value2 .ensures)
+add-result c = search needs
 
 returns-6 : tie.Need-returns-6
-returns-6 c = (hex-packed (c .before .before .before .before .before .before .before .before .before .before .before .before .before .before .args .s .now) (c .before .before .before .before .before .before .before .before .before .before .before .before .before .before .args .at) _ _ _ _ _ (c .before .before .before .before .before .before .before .before .before .number .ensures) (c .before .before .before .before .before .number2 .ensures) (omega arith) (sym (c .before .before .before .before .before .before .before .before .is-ascii-hexdigit .ensures) ∙ not-false _ (c .before .before .before .before .before .before .before .if3 .left)) (sym (c .before .before .before .before .is-ascii-hexdigit2 .ensures) ∙ not-false _ (c .before .before .before .if4 .left)) (c .before .before .hex-value .ensures) (c .before .hex-value2 .ensures) refl, omega arith)
+returns-6 c = (hex-packed (c .before .before .before .before .before .before .before .before .before .before .args .s .now) (c .before .before .before .before .before .before .before .before .before .before .args .at) _ _ _ _ _ refl refl (omega arith) ((c .before .before .before .before .before .hex-digit .ensures (omega (arith, c .before .before .before .before .if3 .left))) .digit) ((c .before .before .hex-digit2 .ensures (omega (arith, c .before .if4 .left))) .digit) ((c .before .before .before .before .before .hex-digit .ensures (omega (arith, c .before .before .before .before .if3 .left))) .value) ((c .before .before .hex-digit2 .ensures (omega (arith, c .before .if4 .left))) .value) refl, omega arith)
 
 pub hex-at-spec : {M : Type 1} → statement M
 hex-at-spec =
@@ -77,19 +63,15 @@ hex-at-spec =
     returns
     sub-if2
     returns-2
-    add-number
-    shared-slice-read-number
-    number-requires
-    is-ascii-hexdigit-requires
+    add-hex-digit
+    shared-slice-read-hex-digit
+    hex-digit-requires
     returns-3
-    add-number-2
-    shared-slice-read-number-2
-    number-requires-2
-    is-ascii-hexdigit-requires-2
+    add-hex-digit-2
+    shared-slice-read-hex-digit-2
+    hex-digit-requires-2
     returns-4
-    hex-value-requires
     mul-x
-    hex-value-requires-2
     add-x
     returns-5
     mul-result
