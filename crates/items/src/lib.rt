@@ -40,7 +40,7 @@ pub fn is_single(form: Form) -> bool
     }
 }
 
-fn is_template(form: Form) -> bool
+pub fn is_template(form: Form) -> bool
     ensures { λ r. ⌜ r ≡ isTemplate form ⌝ }
 {
     match form {

@@ -1,4 +1,6 @@
 pub mod Stores
 pub mod Bodies
+pub mod Stretches
+pub mod Passes
 pub mod Unescaped
 pub mod Examples

@@ -1,15 +1,16 @@
 -- Document 01, "Escapes": a whole body, the bytes that it gives, and its refusals in their order.
-use Prim.Native.Nat.{ℕ, _+_}
+use Prim.Native.Nat.{ℕ, _+_, _≤_}
+use mathlib.Core.Path.{_≡_}
 use mathlib.Core.List.{List, [], _∷_, _++_}
 use mathlib.Core.Bool.{Bool, true, false, not}
 use lib.Dec.{ltb, eqb}
 use lib.ListN.{length}
 use Rattle.escapes.specs.declared.Escape.{Escape}
 use Rattle.escapes.specs.declared.Escape.the-variants.{Bad, Item, Skipped}
-use Rattle.items.specs.Items.{isBytes, isSingle, itemBytes, itemOf}
+use Rattle.items.specs.Items.{isSingle, itemBytes, itemOf}
 use Rattle.items.specs.declared.Form.{Form}
 use Rattle.laws.specs.Bools.{pick}
-use Rattle.sound.specs.Source.{sourceTest}
+use Rattle.sound.specs.Source.{soundTo, sourceTest}
 use Rattle.sound.specs.declared.Tested.the-variants.{IllFormed, Misplaced, Sound, TooLong}
 use Rattle.text.specs.Utf8.{rest, width}
 use Rattle.token.specs.Reads.{spanOf}
@@ -17,14 +18,6 @@ use Rattle.unescape.specs.declared.body.Measured.{Measured}
 use Rattle.unescape.specs.declared.body.Measured.the-variants.{Stopped, Whole}
 use Rattle.unescape.specs.declared.body.Unescaped.{Unescaped}
 use Rattle.unescape.specs.declared.body.Unescaped.the-variants.{Refused, Wrote}
-
--- a scalar that is read as itself in every form: ASCII and no backslash
-unfoldable pub itselfOf : ℕ → Bool
-itselfOf v = pick (ltb 0x7f v) false (not (eqb v 0x5c))
-
--- a scalar that is read as itself: no backslash, and none above U+007F in bytes
-unfoldable pub standsOf : Form → ℕ → Bool
-standsOf form v = pick (eqb v 0x5c) false (pick (ltb 0x7f v) (not (isBytes form)) true)
 
 -- how the items end: with the body, or at the first of 20 to 25, with its number and span
 pub data Ending : Type 0 where
@@ -104,10 +97,16 @@ unescapeOf form s room =
       | Misplaced at ↦ refuse 4 at at
     ]
 
--- how many items and bytes, or the first fault
-unfoldable pub measuredOf : Form → ℕ → ℕ → Body → Measured
-measuredOf form items count b =
+-- how many bytes, or the first fault
+unfoldable pub measuredOf : Form → ℕ → Body → Measured
+measuredOf form count b =
     elim (b .ending) [
-      | whole ↦ Whole (items + length (b .items)) (count + length (writtenOf form (b .items)))
+      | whole ↦ Whole (count + length (writtenOf form (b .items)))
       | fault number start end ↦ Stopped number start end
     ]
+
+-- what is known of a body before it is written: well-formed, without a fault, and with room enough
+pub record Writable (form : Form) (s : List ℕ) (room : ℕ) : Type 0 where
+  pub sound : soundTo s ≡ length s
+  pub faultless : bodyOf form 0 (rest s 0) 0 .ending ≡ whole
+  pub enough : length (writtenOf form (bodyOf form 0 (rest s 0) 0 .items)) ≤ room

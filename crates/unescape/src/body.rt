@@ -4,7 +4,14 @@ use escapes::Escape;
 use items::Form;
 use items::is_bytes;
 use items::is_single;
+use items::is_template;
 use items::item_at;
+use runs::begin_at;
+use runs::escaped_at;
+use runs::long_at;
+use runs::run_end;
+use runs::short_escape;
+use runs::short_limit;
 use sound::Tested;
 use text::Scalar;
 use token::Refusal;
@@ -18,11 +25,15 @@ ghost use Prim.Native.Nat.{_+_, _≤_};
 ghost use mathlib.Core.Path.{_≡_};
 ghost use mathlib.Core.Bool.{true};
 ghost use lib.Seq.{sets};
-ghost use lib.ListN.{length, take};
+ghost use lib.ListN.{drop, length, take};
 ghost use Rattle.encoding.specs.Encode.{padded};
 ghost use Rattle.items.specs.Items.{isBytes, itemBytes};
+ghost use Rattle.runs.specs.Runs.{bareOf};
+ghost use Rattle.sound.specs.Source.{soundTo};
 ghost use Rattle.text.specs.Utf8.{rest};
-ghost use Rattle.unescape.specs.Bodies.{bodyOf, itselfOf, measuredOf, readOf, refusedAt, standsOf, unescapeOf, writtenOf, wrongCount};
+ghost use Rattle.unescape.specs.Bodies.{Writable, bodyOf, measuredOf, readOf, refusedAt, unescapeOf, writtenOf, wrongCount};
+ghost use Rattle.unescape.specs.declared.body.Measured.{Measured};
+ghost use Rattle.unescape.specs.declared.body.Measured.the-variants.{Stopped};
 
 // How many bytes were written, or why none.
 pub enum Unescaped {
@@ -30,10 +41,9 @@ pub enum Unescaped {
     Refused { refusal: Refusal },
 }
 
-// How many items a body gives and how many bytes they take, or its first fault.
+// How many bytes the items of a body take, or its first fault.
 enum Measured {
     Whole {
-        items: usize,
         count: usize,
     },
     Stopped {
@@ -41,29 +51,6 @@ enum Measured {
         start: usize,
         end: usize,
     },
-}
-
-// ASCII and no backslash: one byte that stands for itself in every form. Asked first, since most scalars are such.
-fn is_itself(v: u32) -> bool
-    ensures { λ r. ⌜ r ≡ itselfOf v ⌝ }
-{
-    if 0x7f < v {
-        return false;
-    }
-    v != 0x5c
-}
-
-// Whether a scalar stands for itself: no backslash, and none above U+007F in bytes. Asked before `item_at`, which is too long to be inlined.
-fn stands(form: Form, v: u32) -> bool
-    ensures { λ r. ⌜ r ≡ standsOf form v ⌝ }
-{
-    if v == 0x5c {
-        return false;
-    }
-    if v <= 0x7f {
-        return true;
-    }
-    !is_bytes(form)
 }
 
 // The bytes of an item.
@@ -78,45 +65,52 @@ fn item_bytes(form: Form, item: u32) -> Encoded
     encoding::encode(item)
 }
 
-fn measure(s: &[u8], form: Form) -> Measured
-    ensures { λ r. ⌜ r ≡ measuredOf form 0 0 (bodyOf form 0 (rest (now (s .entry)) 0) 0) ⌝ }
+// How many bytes an item takes.
+fn item_len(form: Form, item: u32) -> usize
+    requires { ⌜ (isBytes form ≡ true → item ≤ 0xff) ⌝ }
+    ensures { λ r. ⌜ r ≡ length (itemBytes form item) ⌝ }
 {
+    let encoded = item_bytes(form, item);
+    encoded.len
+}
+
+fn stopped(number: u32, start: usize, end: usize) -> Measured
+    ensures { λ r. ⌜ r ≡ Measured.Stopped number start end ⌝ }
+{
+    Measured::Stopped { number, start, end }
+}
+
+// Run by run, and what stands between two runs: an escape of two bytes first, since most are such, then those by value.
+fn measure(s: &[u8], form: Form) -> Measured
+    requires { ⌜ soundTo (now s) ≡ length (now s) ⌝ }
+    ensures { λ r. ⌜ r ≡ measuredOf form 0 (bodyOf form 0 (rest (now (s .entry)) 0) 0) ⌝ }
+{
+    let bytes = is_bytes(form);
+    let limit = short_limit(is_template(form));
     let mut at: usize = 0;
-    let mut items: usize = 0;
     let mut count: usize = 0;
     loop {
-        let Scalar::One { value, next } = text::scalar_at(s, at) else {
-            return Measured::Whole { items, count };
-        };
-        if is_itself(value) {
-            items = items + 1;
+        let p = run_end(s, at, bytes);
+        count = count + (p - at);
+        if s.len() <= p {
+            return Measured::Whole { count };
+        }
+        if short_escape(escaped_at(s, p)) < limit {
             count = count + 1;
-            at = next;
-        } else if stands(form, value) {
-            let encoded = item_bytes(form, value);
-            items = items + 1;
-            count = count + encoded.len;
-            at = next;
+            at = p + 2;
         } else {
-            match item_at(s, form, value, next) {
-                Escape::Item {
-                    value: item,
-                    next: end,
-                } => {
-                    let encoded = item_bytes(form, item);
-                    items = items + 1;
-                    count = count + encoded.len;
-                    at = end;
-                }
-                Escape::Skipped { next: end } => {
-                    at = end;
-                }
-                Escape::Bad { number, next: end } => {
-                    return Measured::Stopped {
-                        number,
-                        start: at,
-                        end,
-                    };
+            let long = long_at(s, p, form);
+            if 0 < long {
+                count = count + item_len(form, long / 16);
+                at = p + (long % 16) as usize;
+            } else {
+                match begin_at(s, p, form) {
+                    Escape::Item { value, next } => {
+                        count = count + item_len(form, value);
+                        at = next;
+                    }
+                    Escape::Skipped { next } => at = next,
+                    Escape::Bad { number, next } => return stopped(number, p, next),
                 }
             }
         }
@@ -146,46 +140,71 @@ fn put(out: &mut [u8], n: usize, bytes: &[u8; 4], len: usize)
     out[n + 3] = bytes[3];
 }
 
-// The items up to the first fault, written from the first byte on.
+// An item's bytes, to the place n on; how many they are.
+fn put_item(out: &mut [u8], n: usize, form: Form, item: u32) -> usize
+    requires { ⌜ (isBytes form ≡ true → item ≤ 0xff) × (n + length (itemBytes form item) ≤ length (now out)) ⌝ }
+    ensures len { λ r. ⌜ r ≡ length (itemBytes form item) ⌝ }
+    ensures bytes { λ _. ⌜ now (out .exit) ≡ sets (now (out .entry)) n (itemBytes form item) ⌝ }
+{
+    let encoded = item_bytes(form, item);
+    let len = encoded.len;
+    let bytes = encoded.bytes;
+    put(out, n, &bytes, len);
+    len
+}
+
+// The bytes before the next backslash, to the place n on; the backslash's place, or the end.
+fn copy_run(s: &[u8], at: usize, out: &mut [u8], n: usize) -> usize
+    requires { ⌜ n + length (bareOf (drop at (now s))) ≤ length (now out) ⌝ }
+    ensures end { λ r. ⌜ r ≡ at + length (bareOf (drop at (now (s .entry)))) ⌝ }
+    ensures bytes { λ _. ⌜ now (out .exit) ≡ sets (now (out .entry)) n (bareOf (drop at (now (s .entry)))) ⌝ }
+{
+    let mut p = at;
+    let mut m = n;
+    while p < s.len() {
+        let b = s[p];
+        if b == 0x5c {
+            return p;
+        }
+        out[m] = b;
+        p = p + 1;
+        m = m + 1;
+    }
+    p
+}
+
+// The items of a body without a fault, written from the first byte on: so what stands before a backslash is copied in every form.
 fn write_items(s: &[u8], form: Form, out: &mut [u8])
-    requires { ⌜ length (writtenOf form (bodyOf form 0 (rest (now s) 0) 0 .items)) ≤ length (now out) ⌝ }
+    requires { ⌜ Writable form (now s) (length (now out)) ⌝ }
     ensures { λ _. ⌜ now (out .exit) ≡ sets (now (out .entry)) 0 (writtenOf form (bodyOf form 0 (rest (now (s .entry)) 0) 0 .items)) ⌝ }
 {
+    let limit = short_limit(is_template(form));
     let mut at: usize = 0;
     let mut n: usize = 0;
     loop {
-        let Scalar::One { value, next } = text::scalar_at(s, at) else {
+        let p = copy_run(s, at, out, n);
+        n = n + (p - at);
+        if s.len() <= p {
             return;
-        };
-        if is_itself(value) {
-            out[n] = value as u8;
+        }
+        let short = short_escape(escaped_at(s, p));
+        if short < limit {
+            out[n] = short % 128 - 1;
             n = n + 1;
-            at = next;
-        } else if stands(form, value) {
-            let encoded = item_bytes(form, value);
-            let len = encoded.len;
-            let bytes = encoded.bytes;
-            put(out, n, &bytes, len);
-            n = n + len;
-            at = next;
+            at = p + 2;
         } else {
-            match item_at(s, form, value, next) {
-                Escape::Item {
-                    value: item,
-                    next: end,
-                } => {
-                    let encoded = item_bytes(form, item);
-                    let len = encoded.len;
-                    let bytes = encoded.bytes;
-                    put(out, n, &bytes, len);
-                    n = n + len;
-                    at = end;
-                }
-                Escape::Skipped { next: end } => {
-                    at = end;
-                }
-                Escape::Bad { number: _, next: _ } => {
-                    return;
+            let long = long_at(s, p, form);
+            if 0 < long {
+                n = n + put_item(out, n, form, long / 16);
+                at = p + (long % 16) as usize;
+            } else {
+                match begin_at(s, p, form) {
+                    Escape::Item { value, next } => {
+                        n = n + put_item(out, n, form, value);
+                        at = next;
+                    }
+                    Escape::Skipped { next } => at = next,
+                    Escape::Bad { number: _, next: _ } => return,
                 }
             }
         }
@@ -204,22 +223,54 @@ fn refuse(number: u32, start: usize, end: usize) -> Unescaped
     }
 }
 
-// A char or byte body that gives other than one item.
-fn wrong_count(form: Form, items: usize) -> bool
-    ensures { λ r. ⌜ r ≡ wrongCount form items ⌝ }
+fn count_items(s: &[u8], form: Form) -> usize
+    ensures { λ r. ⌜ r ≡ length (bodyOf form 0 (rest (now (s .entry)) 0) 0 .items) ⌝ }
 {
-    if is_single(form) { items != 1 } else { false }
+    let mut at: usize = 0;
+    let mut n: usize = 0;
+    loop {
+        let Scalar::One { value, next } = text::scalar_at(s, at) else {
+            return n;
+        };
+        match item_at(s, form, value, next) {
+            Escape::Item {
+                value: _,
+                next: end,
+            } => {
+                n = n + 1;
+                at = end;
+            }
+            Escape::Skipped { next: end } => {
+                at = end;
+            }
+            Escape::Bad { number: _, next: _ } => {
+                return n;
+            }
+        }
+    }
+}
+
+// A char or byte body that gives other than one item. Only of these the items are counted.
+fn wrong_count(s: &[u8], form: Form) -> bool
+    ensures { λ r. ⌜ r ≡ wrongCount form (length (bodyOf form 0 (rest (now (s .entry)) 0) 0 .items)) ⌝ }
+{
+    if is_single(form) {
+        count_items(s, form) != 1
+    } else {
+        false
+    }
 }
 
 // A body that is well-formed.
 fn unescape_sound(body: &[u8], form: Form, out: &mut [u8]) -> Unescaped
+    requires { ⌜ soundTo (now body) ≡ length (now body) ⌝ }
     ensures answer { λ r. ⌜ r ≡ readOf form (now (body .entry)) (length (now (out .entry))) .answer ⌝ }
     ensures bytes { λ _. ⌜ now (out .exit) ≡ sets (now (out .entry)) 0 (readOf form (now (body .entry)) (length (now (out .entry))) .bytes) ⌝ }
 {
     match measure(body, form) {
         Measured::Stopped { number, start, end } => refuse(number, start, end),
-        Measured::Whole { items, count } => {
-            if wrong_count(form, items) {
+        Measured::Whole { count } => {
+            if wrong_count(body, form) {
                 return refuse(NOT_ONE_ITEM, 0, body.len());
             }
             if out.len() < count {

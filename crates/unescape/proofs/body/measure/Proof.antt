@@ -1,104 +1,118 @@
 use Prim.Native.Nat.{_-_}
-use mathlib.Core.Path.{refl, sym, ap, _∙_}
+use mathlib.Core.Path.{refl, ap, _∙_}
 use native.Mathlib.Omega.{arith}
 use borrow.Author.Needs.{needs}
 use lib.ListN.{length}
-use Rattle.encoding.specs.declared.Encoded.{Encoded}
 use Rattle.items.proofs.Lands.{placeOf}
-use Rattle.text.proofs.Decode.{step-none, step-one}
-use Rattle.unescape.proofs.Bodies.{Measuring, fits-here, item-stands, itself-bytes, itself-stands, measured-bad, measured-end, measuring-first, measuring-item, measuring-skipped, next-past, next-room}
+use Rattle.unescape.proofs.Passes.{Measuring, measured-bad, measured-end, measuring-first, measuring-next, measuring-run, measuring-same}
+use Rattle.unescape.proofs.Stretches.{begun-bad, begun-byte, begun-item, begun-past, begun-room, begun-skipped, stretch-short}
 use Rattle.unescape.proofs.body.measure.Statement.{statement}
 use Rattle.unescape.proofs.body.measure.Tie as tie
 
 abbrev Inv-loop : tie.InvT-loop
-Inv-loop s form at₀ items₀ count₀ at items count = Measuring form s at items count
+Inv-loop s form bytes limit at₀ count₀ at count = Measuring form s at count
 
 abbrev μ-loop : tie.MeasureT-loop
-μ-loop s form at₀ items₀ count₀ at items count = length s - at
+μ-loop s form bytes limit at₀ count₀ at count = length s - at
+
+is-bytes-requires : tie.Need-is-bytes-requires Inv-loop μ-loop
+is-bytes-requires c κs = search needs
+
+is-template-requires : tie.Need-is-template-requires Inv-loop μ-loop
+is-template-requires c κs = search needs
+
+short-limit-requires : tie.Need-short-limit-requires Inv-loop μ-loop
+short-limit-requires c κs = search needs
 
 loop-holds : tie.Need-loop-holds Inv-loop μ-loop
-loop-holds c = measuring-first _ _
+loop-holds c = measuring-first _ _ (c .before .before .before .before .pre)
 
-scalar-at-requires : tie.Need-scalar-at-requires Inv-loop μ-loop
-scalar-at-requires c κs = search needs
+run-end-requires : tie.Need-run-end-requires Inv-loop μ-loop
+run-end-requires c κs = search needs
+
+sub-count : tie.Need-sub-count Inv-loop μ-loop
+sub-count c = omega (arith, c .run-end .ensures)
+
+add-count : tie.Need-add-count Inv-loop μ-loop
+add-count c = let i = (measuring-run (c .before .before .before .before .before .before .args .form) (c .before .before .before .before .before .before .args .s .now) (c .before .loop .at) (c .before .loop .count) (c .before .loop .inv) (c .before .before .before .before .is-bytes .ensures) (c .run-end .ensures)) in omega (arith, i .less, i .inside)
+
+returns : tie.Need-returns Inv-loop μ-loop
+returns c = measured-end _ _ _ _ (measuring-run (c .before .before .before .before .before .before .before .args .form) (c .before .before .before .before .before .before .before .args .s .now) (c .before .before .loop .at) (c .before .before .loop .count) (c .before .before .loop .inv) (c .before .before .before .before .before .is-bytes .ensures) (c .before .run-end .ensures)) (c .if1 .taken)
+
+escaped-at-requires : tie.Need-escaped-at-requires Inv-loop μ-loop
+escaped-at-requires c κs = search needs
+
+short-escape-requires : tie.Need-short-escape-requires Inv-loop μ-loop
+short-escape-requires c κs = search needs
+
+add-count-2 : tie.Need-add-count-2 Inv-loop μ-loop
+add-count-2 c = let i = (measuring-next _ _ _ _ (measuring-run (c .before .before .before .before .before .before .before .before .before .before .args .form) (c .before .before .before .before .before .before .before .before .before .before .args .s .now) (c .before .before .before .before .before .loop .at) (c .before .before .before .before .before .loop .count) (c .before .before .before .before .before .loop .inv) (c .before .before .before .before .before .before .before .before .is-bytes .ensures) (c .before .before .before .before .run-end .ensures)) _ _ 1 (stretch-short (c .before .before .before .before .before .before .before .before .before .before .args .form) (c .before .before .before .before .before .before .before .before .before .before .args .s .now) (c .before .before .before .before .run-end .result) (c .before .before .escaped-at .ensures) (c .before .short-escape .ensures) (c .before .before .before .before .before .before .short-limit .ensures) (c .before .before .before .before .before .before .before .is-template .ensures) (c .if2 .taken)) refl) in omega (arith, i .less, i .inside)
+
+add-at : tie.Need-add-at Inv-loop μ-loop
+add-at c = let i = (measuring-next _ _ _ _ (measuring-run (c .before .before .before .before .before .before .before .before .before .before .args .form) (c .before .before .before .before .before .before .before .before .before .before .args .s .now) (c .before .before .before .before .before .loop .at) (c .before .before .before .before .before .loop .count) (c .before .before .before .before .before .loop .inv) (c .before .before .before .before .before .before .before .before .is-bytes .ensures) (c .before .before .before .before .run-end .ensures)) _ _ 1 (stretch-short (c .before .before .before .before .before .before .before .before .before .before .args .form) (c .before .before .before .before .before .before .before .before .before .before .args .s .now) (c .before .before .before .before .run-end .result) (c .before .before .escaped-at .ensures) (c .before .short-escape .ensures) (c .before .before .before .before .before .before .short-limit .ensures) (c .before .before .before .before .before .before .before .is-template .ensures) (c .if2 .taken)) refl) in omega (arith, i .inside)
+
+loop-less : tie.Need-loop-less Inv-loop μ-loop
+loop-less c = let i = (measuring-next _ _ _ _ (measuring-run (c .before .before .before .before .before .before .before .before .before .before .args .form) (c .before .before .before .before .before .before .before .before .before .before .args .s .now) (c .before .before .before .before .before .loop .at) (c .before .before .before .before .before .loop .count) (c .before .before .before .before .before .loop .inv) (c .before .before .before .before .before .before .before .before .is-bytes .ensures) (c .before .before .before .before .run-end .ensures)) _ _ 1 (stretch-short (c .before .before .before .before .before .before .before .before .before .before .args .form) (c .before .before .before .before .before .before .before .before .before .before .args .s .now) (c .before .before .before .before .run-end .result) (c .before .before .escaped-at .ensures) (c .before .short-escape .ensures) (c .before .before .before .before .before .before .short-limit .ensures) (c .before .before .before .before .before .before .before .is-template .ensures) (c .if2 .taken)) refl) in omega (arith, i .inside, c .before .before .before .before .run-end .ensures)
+
+loop-again : tie.Need-loop-again Inv-loop μ-loop
+loop-again c = (measuring-next _ _ _ _ (measuring-run (c .before .before .before .before .before .before .before .before .before .before .args .form) (c .before .before .before .before .before .before .before .before .before .before .args .s .now) (c .before .before .before .before .before .loop .at) (c .before .before .before .before .before .loop .count) (c .before .before .before .before .before .loop .inv) (c .before .before .before .before .before .before .before .before .is-bytes .ensures) (c .before .before .before .before .run-end .ensures)) _ _ 1 (stretch-short (c .before .before .before .before .before .before .before .before .before .before .args .form) (c .before .before .before .before .before .before .before .before .before .before .args .s .now) (c .before .before .before .before .run-end .result) (c .before .before .escaped-at .ensures) (c .before .short-escape .ensures) (c .before .before .before .before .before .before .short-limit .ensures) (c .before .before .before .before .before .before .before .is-template .ensures) (c .if2 .taken)) refl)
+
+long-at-requires : tie.Need-long-at-requires Inv-loop μ-loop
+long-at-requires c κs = search needs
+
+item-len-requires : tie.Need-item-len-requires Inv-loop μ-loop
+item-len-requires c κs = begun-byte (c .before .before .before .before .before .before .before .before .before .before .before .before .args .form) (c .before .before .before .before .before .before .before .before .before .before .before .before .args .s .now) (c .before .before .before .before .before .before .run-end .result) (c .before .before .before .before .before .if1 .left) ((measuring-run (c .before .before .before .before .before .before .before .before .before .before .before .before .args .form) (c .before .before .before .before .before .before .before .before .before .before .before .before .args .s .now) (c .before .before .before .before .before .before .before .loop .at) (c .before .before .before .before .before .before .before .loop .count) (c .before .before .before .before .before .before .before .loop .inv) (c .before .before .before .before .before .before .before .before .before .before .is-bytes .ensures) (c .before .before .before .before .before .before .run-end .ensures)) .sound) _ (c .before .long-at .ensures (c .if3 .taken)) _ _ refl
+
+add-count-3 : tie.Need-add-count-3 Inv-loop μ-loop
+add-count-3 c = let i = (measuring-next _ _ _ _ (measuring-run (c .before .before .before .before .before .before .before .before .before .before .before .before .before .args .form) (c .before .before .before .before .before .before .before .before .before .before .before .before .before .args .s .now) (c .before .before .before .before .before .before .before .before .loop .at) (c .before .before .before .before .before .before .before .before .loop .count) (c .before .before .before .before .before .before .before .before .loop .inv) (c .before .before .before .before .before .before .before .before .before .before .before .is-bytes .ensures) (c .before .before .before .before .before .before .before .run-end .ensures)) _ _ _ (begun-item (c .before .before .before .before .before .before .before .before .before .before .before .before .before .args .form) (c .before .before .before .before .before .before .before .before .before .before .before .before .before .args .s .now) (c .before .before .before .before .before .before .before .run-end .result) (c .before .before .before .before .before .before .if1 .left) ((measuring-run (c .before .before .before .before .before .before .before .before .before .before .before .before .before .args .form) (c .before .before .before .before .before .before .before .before .before .before .before .before .before .args .s .now) (c .before .before .before .before .before .before .before .before .loop .at) (c .before .before .before .before .before .before .before .before .loop .count) (c .before .before .before .before .before .before .before .before .loop .inv) (c .before .before .before .before .before .before .before .before .before .before .before .is-bytes .ensures) (c .before .before .before .before .before .before .before .run-end .ensures)) .sound) _ (c .before .before .long-at .ensures (c .before .if3 .taken)) _ _ refl) (c .item-len .ensures)) in omega (arith, i .less, i .inside)
+
+cast-at : tie.Need-cast-at Inv-loop μ-loop
+cast-at c = search needs
+
+add-at-2 : tie.Need-add-at-2 Inv-loop μ-loop
+add-at-2 c = omega (arith, begun-room (c .before .before .before .before .before .before .before .before .before .before .before .before .before .args .form) (c .before .before .before .before .before .before .before .before .before .before .before .before .before .args .s .now) (c .before .before .before .before .before .before .before .run-end .result) (c .before .before .before .before .before .before .if1 .left) ((measuring-run (c .before .before .before .before .before .before .before .before .before .before .before .before .before .args .form) (c .before .before .before .before .before .before .before .before .before .before .before .before .before .args .s .now) (c .before .before .before .before .before .before .before .before .loop .at) (c .before .before .before .before .before .before .before .before .loop .count) (c .before .before .before .before .before .before .before .before .loop .inv) (c .before .before .before .before .before .before .before .before .before .before .before .is-bytes .ensures) (c .before .before .before .before .before .before .before .run-end .ensures)) .sound) _ (c .before .before .long-at .ensures (c .before .if3 .taken)))
+
+loop-less-2 : tie.Need-loop-less-2 Inv-loop μ-loop
+loop-less-2 c = omega (arith, begun-past (c .before .before .before .before .before .before .before .before .before .before .before .before .before .args .form) (c .before .before .before .before .before .before .before .before .before .before .before .before .before .args .s .now) (c .before .before .before .before .before .before .before .run-end .result) (c .before .before .before .before .before .before .if1 .left) ((measuring-run (c .before .before .before .before .before .before .before .before .before .before .before .before .before .args .form) (c .before .before .before .before .before .before .before .before .before .before .before .before .before .args .s .now) (c .before .before .before .before .before .before .before .before .loop .at) (c .before .before .before .before .before .before .before .before .loop .count) (c .before .before .before .before .before .before .before .before .loop .inv) (c .before .before .before .before .before .before .before .before .before .before .before .is-bytes .ensures) (c .before .before .before .before .before .before .before .run-end .ensures)) .sound) _ (c .before .before .long-at .ensures (c .before .if3 .taken)), begun-room (c .before .before .before .before .before .before .before .before .before .before .before .before .before .args .form) (c .before .before .before .before .before .before .before .before .before .before .before .before .before .args .s .now) (c .before .before .before .before .before .before .before .run-end .result) (c .before .before .before .before .before .before .if1 .left) ((measuring-run (c .before .before .before .before .before .before .before .before .before .before .before .before .before .args .form) (c .before .before .before .before .before .before .before .before .before .before .before .before .before .args .s .now) (c .before .before .before .before .before .before .before .before .loop .at) (c .before .before .before .before .before .before .before .before .loop .count) (c .before .before .before .before .before .before .before .before .loop .inv) (c .before .before .before .before .before .before .before .before .before .before .before .is-bytes .ensures) (c .before .before .before .before .before .before .before .run-end .ensures)) .sound) _ (c .before .before .long-at .ensures (c .before .if3 .taken)), c .before .before .before .before .before .before .before .run-end .ensures)
+
+loop-again-2 : tie.Need-loop-again-2 Inv-loop μ-loop
+loop-again-2 c = (measuring-next _ _ _ _ (measuring-run (c .before .before .before .before .before .before .before .before .before .before .before .before .before .args .form) (c .before .before .before .before .before .before .before .before .before .before .before .before .before .args .s .now) (c .before .before .before .before .before .before .before .before .loop .at) (c .before .before .before .before .before .before .before .before .loop .count) (c .before .before .before .before .before .before .before .before .loop .inv) (c .before .before .before .before .before .before .before .before .before .before .before .is-bytes .ensures) (c .before .before .before .before .before .before .before .run-end .ensures)) _ _ _ (begun-item (c .before .before .before .before .before .before .before .before .before .before .before .before .before .args .form) (c .before .before .before .before .before .before .before .before .before .before .before .before .before .args .s .now) (c .before .before .before .before .before .before .before .run-end .result) (c .before .before .before .before .before .before .if1 .left) ((measuring-run (c .before .before .before .before .before .before .before .before .before .before .before .before .before .args .form) (c .before .before .before .before .before .before .before .before .before .before .before .before .before .args .s .now) (c .before .before .before .before .before .before .before .before .loop .at) (c .before .before .before .before .before .before .before .before .loop .count) (c .before .before .before .before .before .before .before .before .loop .inv) (c .before .before .before .before .before .before .before .before .before .before .before .is-bytes .ensures) (c .before .before .before .before .before .before .before .run-end .ensures)) .sound) _ (c .before .before .long-at .ensures (c .before .if3 .taken)) _ _ refl) (c .item-len .ensures))
+
+begin-at-requires : tie.Need-begin-at-requires Inv-loop μ-loop
+begin-at-requires c κs = search needs
 
 enum-known-value : tie.Need-enum-known-value Inv-loop μ-loop
 enum-known-value c = search needs
 
-enum-told : tie.Need-enum-told Inv-loop μ-loop
-enum-told c = search needs
+item-len-requires-2 : tie.Need-item-len-requires-2 Inv-loop μ-loop
+item-len-requires-2 c κs = begun-byte (c .before .before .before .before .before .before .before .before .before .before .before .before .before .before .before .before .args .form) (c .before .before .before .before .before .before .before .before .before .before .before .before .before .before .before .before .args .s .now) (c .before .before .before .before .before .before .before .before .before .before .run-end .result) (c .before .before .before .before .before .before .before .before .before .if1 .left) ((measuring-run (c .before .before .before .before .before .before .before .before .before .before .before .before .before .before .before .before .args .form) (c .before .before .before .before .before .before .before .before .before .before .before .before .before .before .before .before .args .s .now) (c .before .before .before .before .before .before .before .before .before .before .before .loop .at) (c .before .before .before .before .before .before .before .before .before .before .before .loop .count) (c .before .before .before .before .before .before .before .before .before .before .before .loop .inv) (c .before .before .before .before .before .before .before .before .before .before .before .before .before .before .is-bytes .ensures) (c .before .before .before .before .before .before .before .before .before .before .run-end .ensures)) .sound) _ (c .before .before .before .begin-at .ensures) _ _ (c .before .value .given .1)
 
-returns : tie.Need-returns Inv-loop μ-loop
-returns c = measured-end _ _ _ _ _ (c .before .before .before .loop .inv) (step-none _ _ (sym (c .before .before .scalar-at .ensures) ∙ c .enum-told .given .1))
-
-is-itself-requires : tie.Need-is-itself-requires Inv-loop μ-loop
-is-itself-requires c κs = search needs
-
-add-items : tie.Need-add-items Inv-loop μ-loop
-add-items c = let i = measuring-item _ _ _ _ _ (c .before .before .before .before .before .before .loop .inv) _ _ (step-one _ _ _ _ (sym (c .before .before .before .before .before .scalar-at .ensures) ∙ c .before .before .before .value .given .1)) _ (item-stands (c .before .before .before .before .before .before .before .before .args .form) _ _ _ (itself-stands (c .before .before .before .value .given .0 .0) (c .before .before .before .before .before .before .before .before .args .form) (sym (c .before .is-itself .ensures) ∙ c .if1 .taken))) _ _ 1 refl (omega (arith, ap length (itself-bytes (c .before .before .before .value .given .0 .0) (c .before .before .before .before .before .before .before .before .args .form) (sym (c .before .is-itself .ensures) ∙ c .if1 .taken)))) in omega (arith, i .few, i .inside)
-
-add-count : tie.Need-add-count Inv-loop μ-loop
-add-count c = let i = measuring-item _ _ _ _ _ (c .before .before .before .before .before .before .loop .inv) _ _ (step-one _ _ _ _ (sym (c .before .before .before .before .before .scalar-at .ensures) ∙ c .before .before .before .value .given .1)) _ (item-stands (c .before .before .before .before .before .before .before .before .args .form) _ _ _ (itself-stands (c .before .before .before .value .given .0 .0) (c .before .before .before .before .before .before .before .before .args .form) (sym (c .before .is-itself .ensures) ∙ c .if1 .taken))) _ _ 1 refl (omega (arith, ap length (itself-bytes (c .before .before .before .value .given .0 .0) (c .before .before .before .before .before .before .before .before .args .form) (sym (c .before .is-itself .ensures) ∙ c .if1 .taken)))) in omega (arith, i .less, i .inside)
-
-loop-less : tie.Need-loop-less Inv-loop μ-loop
-loop-less c = omega (arith, next-past (c .before .before .before .before .before .before .before .before .args .form) (c .before .before .before .before .before .before .before .before .args .s .now) _ _ _ (step-one _ _ _ _ (sym (c .before .before .before .before .before .scalar-at .ensures) ∙ c .before .before .before .value .given .1)) _ (item-stands (c .before .before .before .before .before .before .before .before .args .form) _ _ _ (itself-stands (c .before .before .before .value .given .0 .0) (c .before .before .before .before .before .before .before .before .args .form) (sym (c .before .is-itself .ensures) ∙ c .if1 .taken))), next-room (c .before .before .before .before .before .before .before .before .args .form) (c .before .before .before .before .before .before .before .before .args .s .now) _ _ _ (step-one _ _ _ _ (sym (c .before .before .before .before .before .scalar-at .ensures) ∙ c .before .before .before .value .given .1)) _ (item-stands (c .before .before .before .before .before .before .before .before .args .form) _ _ _ (itself-stands (c .before .before .before .value .given .0 .0) (c .before .before .before .before .before .before .before .before .args .form) (sym (c .before .is-itself .ensures) ∙ c .if1 .taken))))
-
-loop-again : tie.Need-loop-again Inv-loop μ-loop
-loop-again c = measuring-item _ _ _ _ _ (c .before .before .before .before .before .before .loop .inv) _ _ (step-one _ _ _ _ (sym (c .before .before .before .before .before .scalar-at .ensures) ∙ c .before .before .before .value .given .1)) _ (item-stands (c .before .before .before .before .before .before .before .before .args .form) _ _ _ (itself-stands (c .before .before .before .value .given .0 .0) (c .before .before .before .before .before .before .before .before .args .form) (sym (c .before .is-itself .ensures) ∙ c .if1 .taken))) _ _ 1 refl (omega (arith, ap length (itself-bytes (c .before .before .before .value .given .0 .0) (c .before .before .before .before .before .before .before .before .args .form) (sym (c .before .is-itself .ensures) ∙ c .if1 .taken))))
-
-stands-requires : tie.Need-stands-requires Inv-loop μ-loop
-stands-requires c κs = search needs
-
-item-bytes-requires : tie.Need-item-bytes-requires Inv-loop μ-loop
-item-bytes-requires c κs = fits-here _ _ _ _ _ (step-one _ _ _ _ (sym (c .before .before .before .before .before .before .before .scalar-at .ensures) ∙ c .before .before .before .before .before .value .given .1)) _ (item-stands (c .before .before .before .before .before .before .before .before .before .before .args .form) _ _ _ (sym (c .before .stands .ensures) ∙ c .if2 .taken)) _ _ refl .byte
-
-add-items-2 : tie.Need-add-items-2 Inv-loop μ-loop
-add-items-2 c = let i = measuring-item _ _ _ _ _ (c .before .before .before .before .before .before .before .before .before .loop .inv) _ _ (step-one _ _ _ _ (sym (c .before .before .before .before .before .before .before .before .scalar-at .ensures) ∙ c .before .before .before .before .before .before .value .given .1)) _ (item-stands (c .before .before .before .before .before .before .before .before .before .before .before .args .form) _ _ _ (sym (c .before .before .stands .ensures) ∙ c .before .if2 .taken)) _ _ _ refl (ap (λ (r : Encoded). r .len) (c .item-bytes .ensures)) in omega (arith, i .few, i .inside)
-
-add-count-2 : tie.Need-add-count-2 Inv-loop μ-loop
-add-count-2 c = let i = measuring-item _ _ _ _ _ (c .before .before .before .before .before .before .before .before .before .before .loop .inv) _ _ (step-one _ _ _ _ (sym (c .before .before .before .before .before .before .before .before .before .scalar-at .ensures) ∙ c .before .before .before .before .before .before .before .value .given .1)) _ (item-stands (c .before .before .before .before .before .before .before .before .before .before .before .before .args .form) _ _ _ (sym (c .before .before .before .stands .ensures) ∙ c .before .before .if2 .taken)) _ _ _ refl (ap (λ (r : Encoded). r .len) (c .before .item-bytes .ensures)) in omega (arith, i .less, i .inside)
-
-loop-less-2 : tie.Need-loop-less-2 Inv-loop μ-loop
-loop-less-2 c = omega (arith, next-past (c .before .before .before .before .before .before .before .before .before .before .before .before .args .form) (c .before .before .before .before .before .before .before .before .before .before .before .before .args .s .now) _ _ _ (step-one _ _ _ _ (sym (c .before .before .before .before .before .before .before .before .before .scalar-at .ensures) ∙ c .before .before .before .before .before .before .before .value .given .1)) _ (item-stands (c .before .before .before .before .before .before .before .before .before .before .before .before .args .form) _ _ _ (sym (c .before .before .before .stands .ensures) ∙ c .before .before .if2 .taken)), next-room (c .before .before .before .before .before .before .before .before .before .before .before .before .args .form) (c .before .before .before .before .before .before .before .before .before .before .before .before .args .s .now) _ _ _ (step-one _ _ _ _ (sym (c .before .before .before .before .before .before .before .before .before .scalar-at .ensures) ∙ c .before .before .before .before .before .before .before .value .given .1)) _ (item-stands (c .before .before .before .before .before .before .before .before .before .before .before .before .args .form) _ _ _ (sym (c .before .before .before .stands .ensures) ∙ c .before .before .if2 .taken)))
-
-loop-again-2 : tie.Need-loop-again-2 Inv-loop μ-loop
-loop-again-2 c = measuring-item _ _ _ _ _ (c .before .before .before .before .before .before .before .before .before .before .loop .inv) _ _ (step-one _ _ _ _ (sym (c .before .before .before .before .before .before .before .before .before .scalar-at .ensures) ∙ c .before .before .before .before .before .before .before .value .given .1)) _ (item-stands (c .before .before .before .before .before .before .before .before .before .before .before .before .args .form) _ _ _ (sym (c .before .before .before .stands .ensures) ∙ c .before .before .if2 .taken)) _ _ _ refl (ap (λ (r : Encoded). r .len) (c .before .item-bytes .ensures))
-
-item-at-requires : tie.Need-item-at-requires Inv-loop μ-loop
-item-at-requires c κs = search needs
-
-enum-known-item : tie.Need-enum-known-item Inv-loop μ-loop
-enum-known-item c = search needs
-
-item-bytes-requires-2 : tie.Need-item-bytes-requires-2 Inv-loop μ-loop
-item-bytes-requires-2 c κs = fits-here _ _ _ _ _ (step-one _ _ _ _ (sym (c .before .before .before .before .before .before .before .before .before .before .before .scalar-at .ensures) ∙ c .before .before .before .before .before .before .before .before .before .value .given .1)) _ (c .before .before .before .item-at .ensures) _ _ (c .before .item .given .1) .byte
-
-add-items-3 : tie.Need-add-items-3 Inv-loop μ-loop
-add-items-3 c = let i = measuring-item _ _ _ _ _ (c .before .before .before .before .before .before .before .before .before .before .before .before .before .loop .inv) _ _ (step-one _ _ _ _ (sym (c .before .before .before .before .before .before .before .before .before .before .before .before .scalar-at .ensures) ∙ c .before .before .before .before .before .before .before .before .before .before .value .given .1)) _ (c .before .before .before .before .item-at .ensures) _ _ _ (c .before .before .item .given .1) (ap (λ (r : Encoded). r .len) (c .item-bytes2 .ensures)) in omega (arith, i .few, i .inside)
-
-add-count-3 : tie.Need-add-count-3 Inv-loop μ-loop
-add-count-3 c = let i = measuring-item _ _ _ _ _ (c .before .before .before .before .before .before .before .before .before .before .before .before .before .before .loop .inv) _ _ (step-one _ _ _ _ (sym (c .before .before .before .before .before .before .before .before .before .before .before .before .before .scalar-at .ensures) ∙ c .before .before .before .before .before .before .before .before .before .before .before .value .given .1)) _ (c .before .before .before .before .before .item-at .ensures) _ _ _ (c .before .before .before .item .given .1) (ap (λ (r : Encoded). r .len) (c .before .item-bytes2 .ensures)) in omega (arith, i .less, i .inside)
+add-count-4 : tie.Need-add-count-4 Inv-loop μ-loop
+add-count-4 c = let i = (measuring-next _ _ _ _ (measuring-run (c .before .before .before .before .before .before .before .before .before .before .before .before .before .before .before .before .before .args .form) (c .before .before .before .before .before .before .before .before .before .before .before .before .before .before .before .before .before .args .s .now) (c .before .before .before .before .before .before .before .before .before .before .before .before .loop .at) (c .before .before .before .before .before .before .before .before .before .before .before .before .loop .count) (c .before .before .before .before .before .before .before .before .before .before .before .before .loop .inv) (c .before .before .before .before .before .before .before .before .before .before .before .before .before .before .before .is-bytes .ensures) (c .before .before .before .before .before .before .before .before .before .before .before .run-end .ensures)) _ _ _ (begun-item (c .before .before .before .before .before .before .before .before .before .before .before .before .before .before .before .before .before .args .form) (c .before .before .before .before .before .before .before .before .before .before .before .before .before .before .before .before .before .args .s .now) (c .before .before .before .before .before .before .before .before .before .before .before .run-end .result) (c .before .before .before .before .before .before .before .before .before .before .if1 .left) ((measuring-run (c .before .before .before .before .before .before .before .before .before .before .before .before .before .before .before .before .before .args .form) (c .before .before .before .before .before .before .before .before .before .before .before .before .before .before .before .before .before .args .s .now) (c .before .before .before .before .before .before .before .before .before .before .before .before .loop .at) (c .before .before .before .before .before .before .before .before .before .before .before .before .loop .count) (c .before .before .before .before .before .before .before .before .before .before .before .before .loop .inv) (c .before .before .before .before .before .before .before .before .before .before .before .before .before .before .before .is-bytes .ensures) (c .before .before .before .before .before .before .before .before .before .before .before .run-end .ensures)) .sound) _ (c .before .before .before .before .begin-at .ensures) _ _ (c .before .before .value .given .1)) (c .item-len2 .ensures)) in omega (arith, i .less, i .inside)
 
 loop-less-3 : tie.Need-loop-less-3 Inv-loop μ-loop
-loop-less-3 c = omega (arith, next-past (c .before .before .before .before .before .before .before .before .before .before .before .before .before .before .before .before .args .form) (c .before .before .before .before .before .before .before .before .before .before .before .before .before .before .before .before .args .s .now) _ _ _ (step-one _ _ _ _ (sym (c .before .before .before .before .before .before .before .before .before .before .before .before .before .scalar-at .ensures) ∙ c .before .before .before .before .before .before .before .before .before .before .before .value .given .1)) _ (c .before .before .before .before .before .item-at .ensures), next-room (c .before .before .before .before .before .before .before .before .before .before .before .before .before .before .before .before .args .form) (c .before .before .before .before .before .before .before .before .before .before .before .before .before .before .before .before .args .s .now) _ _ _ (step-one _ _ _ _ (sym (c .before .before .before .before .before .before .before .before .before .before .before .before .before .scalar-at .ensures) ∙ c .before .before .before .before .before .before .before .before .before .before .before .value .given .1)) _ (c .before .before .before .before .before .item-at .ensures), ap placeOf (c .before .before .before .item .given .1))
+loop-less-3 c = omega (arith, begun-past (c .before .before .before .before .before .before .before .before .before .before .before .before .before .before .before .before .before .args .form) (c .before .before .before .before .before .before .before .before .before .before .before .before .before .before .before .before .before .args .s .now) (c .before .before .before .before .before .before .before .before .before .before .before .run-end .result) (c .before .before .before .before .before .before .before .before .before .before .if1 .left) ((measuring-run (c .before .before .before .before .before .before .before .before .before .before .before .before .before .before .before .before .before .args .form) (c .before .before .before .before .before .before .before .before .before .before .before .before .before .before .before .before .before .args .s .now) (c .before .before .before .before .before .before .before .before .before .before .before .before .loop .at) (c .before .before .before .before .before .before .before .before .before .before .before .before .loop .count) (c .before .before .before .before .before .before .before .before .before .before .before .before .loop .inv) (c .before .before .before .before .before .before .before .before .before .before .before .before .before .before .before .is-bytes .ensures) (c .before .before .before .before .before .before .before .before .before .before .before .run-end .ensures)) .sound) _ (c .before .before .before .before .begin-at .ensures), begun-room (c .before .before .before .before .before .before .before .before .before .before .before .before .before .before .before .before .before .args .form) (c .before .before .before .before .before .before .before .before .before .before .before .before .before .before .before .before .before .args .s .now) (c .before .before .before .before .before .before .before .before .before .before .before .run-end .result) (c .before .before .before .before .before .before .before .before .before .before .if1 .left) ((measuring-run (c .before .before .before .before .before .before .before .before .before .before .before .before .before .before .before .before .before .args .form) (c .before .before .before .before .before .before .before .before .before .before .before .before .before .before .before .before .before .args .s .now) (c .before .before .before .before .before .before .before .before .before .before .before .before .loop .at) (c .before .before .before .before .before .before .before .before .before .before .before .before .loop .count) (c .before .before .before .before .before .before .before .before .before .before .before .before .loop .inv) (c .before .before .before .before .before .before .before .before .before .before .before .before .before .before .before .is-bytes .ensures) (c .before .before .before .before .before .before .before .before .before .before .before .run-end .ensures)) .sound) _ (c .before .before .before .before .begin-at .ensures), ap placeOf (c .before .before .value .given .1), c .before .before .before .before .before .before .before .before .before .before .before .run-end .ensures)
 
 loop-again-3 : tie.Need-loop-again-3 Inv-loop μ-loop
-loop-again-3 c = measuring-item _ _ _ _ _ (c .before .before .before .before .before .before .before .before .before .before .before .before .before .before .loop .inv) _ _ (step-one _ _ _ _ (sym (c .before .before .before .before .before .before .before .before .before .before .before .before .before .scalar-at .ensures) ∙ c .before .before .before .before .before .before .before .before .before .before .before .value .given .1)) _ (c .before .before .before .before .before .item-at .ensures) _ _ _ (c .before .before .before .item .given .1) (ap (λ (r : Encoded). r .len) (c .before .item-bytes2 .ensures))
+loop-again-3 c = (measuring-next _ _ _ _ (measuring-run (c .before .before .before .before .before .before .before .before .before .before .before .before .before .before .before .before .before .args .form) (c .before .before .before .before .before .before .before .before .before .before .before .before .before .before .before .before .before .args .s .now) (c .before .before .before .before .before .before .before .before .before .before .before .before .loop .at) (c .before .before .before .before .before .before .before .before .before .before .before .before .loop .count) (c .before .before .before .before .before .before .before .before .before .before .before .before .loop .inv) (c .before .before .before .before .before .before .before .before .before .before .before .before .before .before .before .is-bytes .ensures) (c .before .before .before .before .before .before .before .before .before .before .before .run-end .ensures)) _ _ _ (begun-item (c .before .before .before .before .before .before .before .before .before .before .before .before .before .before .before .before .before .args .form) (c .before .before .before .before .before .before .before .before .before .before .before .before .before .before .before .before .before .args .s .now) (c .before .before .before .before .before .before .before .before .before .before .before .run-end .result) (c .before .before .before .before .before .before .before .before .before .before .if1 .left) ((measuring-run (c .before .before .before .before .before .before .before .before .before .before .before .before .before .before .before .before .before .args .form) (c .before .before .before .before .before .before .before .before .before .before .before .before .before .before .before .before .before .args .s .now) (c .before .before .before .before .before .before .before .before .before .before .before .before .loop .at) (c .before .before .before .before .before .before .before .before .before .before .before .before .loop .count) (c .before .before .before .before .before .before .before .before .before .before .before .before .loop .inv) (c .before .before .before .before .before .before .before .before .before .before .before .before .before .before .before .is-bytes .ensures) (c .before .before .before .before .before .before .before .before .before .before .before .run-end .ensures)) .sound) _ (c .before .before .before .before .begin-at .ensures) _ _ (c .before .before .value .given .1)) (c .item-len2 .ensures))
 
-enum-known-end : tie.Need-enum-known-end Inv-loop μ-loop
-enum-known-end c = search needs
+enum-known-next : tie.Need-enum-known-next Inv-loop μ-loop
+enum-known-next c = search needs
 
 loop-less-4 : tie.Need-loop-less-4 Inv-loop μ-loop
-loop-less-4 c = omega (arith, next-past (c .before .before .before .before .before .before .before .before .before .before .before .before .before .before .args .form) (c .before .before .before .before .before .before .before .before .before .before .before .before .before .before .args .s .now) _ _ _ (step-one _ _ _ _ (sym (c .before .before .before .before .before .before .before .before .before .before .before .scalar-at .ensures) ∙ c .before .before .before .before .before .before .before .before .before .value .given .1)) _ (c .before .before .before .item-at .ensures), next-room (c .before .before .before .before .before .before .before .before .before .before .before .before .before .before .args .form) (c .before .before .before .before .before .before .before .before .before .before .before .before .before .before .args .s .now) _ _ _ (step-one _ _ _ _ (sym (c .before .before .before .before .before .before .before .before .before .before .before .scalar-at .ensures) ∙ c .before .before .before .before .before .before .before .before .before .value .given .1)) _ (c .before .before .before .item-at .ensures), ap placeOf (c .before .end .given .1))
+loop-less-4 c = omega (arith, begun-past (c .before .before .before .before .before .before .before .before .before .before .before .before .before .before .before .before .args .form) (c .before .before .before .before .before .before .before .before .before .before .before .before .before .before .before .before .args .s .now) (c .before .before .before .before .before .before .before .before .before .before .run-end .result) (c .before .before .before .before .before .before .before .before .before .if1 .left) ((measuring-run (c .before .before .before .before .before .before .before .before .before .before .before .before .before .before .before .before .args .form) (c .before .before .before .before .before .before .before .before .before .before .before .before .before .before .before .before .args .s .now) (c .before .before .before .before .before .before .before .before .before .before .before .loop .at) (c .before .before .before .before .before .before .before .before .before .before .before .loop .count) (c .before .before .before .before .before .before .before .before .before .before .before .loop .inv) (c .before .before .before .before .before .before .before .before .before .before .before .before .before .before .is-bytes .ensures) (c .before .before .before .before .before .before .before .before .before .before .run-end .ensures)) .sound) _ (c .before .before .before .begin-at .ensures), begun-room (c .before .before .before .before .before .before .before .before .before .before .before .before .before .before .before .before .args .form) (c .before .before .before .before .before .before .before .before .before .before .before .before .before .before .before .before .args .s .now) (c .before .before .before .before .before .before .before .before .before .before .run-end .result) (c .before .before .before .before .before .before .before .before .before .if1 .left) ((measuring-run (c .before .before .before .before .before .before .before .before .before .before .before .before .before .before .before .before .args .form) (c .before .before .before .before .before .before .before .before .before .before .before .before .before .before .before .before .args .s .now) (c .before .before .before .before .before .before .before .before .before .before .before .loop .at) (c .before .before .before .before .before .before .before .before .before .before .before .loop .count) (c .before .before .before .before .before .before .before .before .before .before .before .loop .inv) (c .before .before .before .before .before .before .before .before .before .before .before .before .before .before .is-bytes .ensures) (c .before .before .before .before .before .before .before .before .before .before .run-end .ensures)) .sound) _ (c .before .before .before .begin-at .ensures), ap placeOf (c .before .next .given .1), c .before .before .before .before .before .before .before .before .before .before .run-end .ensures)
 
 loop-again-4 : tie.Need-loop-again-4 Inv-loop μ-loop
-loop-again-4 c = measuring-skipped _ _ _ _ _ (c .before .before .before .before .before .before .before .before .before .before .before .before .loop .inv) _ _ (step-one _ _ _ _ (sym (c .before .before .before .before .before .before .before .before .before .before .before .scalar-at .ensures) ∙ c .before .before .before .before .before .before .before .before .before .value .given .1)) _ (c .before .before .before .item-at .ensures) _ (c .before .end .given .1)
+loop-again-4 c = measuring-same _ _ _ _ (measuring-run (c .before .before .before .before .before .before .before .before .before .before .before .before .before .before .before .before .args .form) (c .before .before .before .before .before .before .before .before .before .before .before .before .before .before .before .before .args .s .now) (c .before .before .before .before .before .before .before .before .before .before .before .loop .at) (c .before .before .before .before .before .before .before .before .before .before .before .loop .count) (c .before .before .before .before .before .before .before .before .before .before .before .loop .inv) (c .before .before .before .before .before .before .before .before .before .before .before .before .before .before .is-bytes .ensures) (c .before .before .before .before .before .before .before .before .before .before .run-end .ensures)) _ (begun-skipped (c .before .before .before .before .before .before .before .before .before .before .before .before .before .before .before .before .args .form) (c .before .before .before .before .before .before .before .before .before .before .before .before .before .before .before .before .args .s .now) (c .before .before .before .before .before .before .before .before .before .before .run-end .result) (c .before .before .before .before .before .before .before .before .before .if1 .left) ((measuring-run (c .before .before .before .before .before .before .before .before .before .before .before .before .before .before .before .before .args .form) (c .before .before .before .before .before .before .before .before .before .before .before .before .before .before .before .before .args .s .now) (c .before .before .before .before .before .before .before .before .before .before .before .loop .at) (c .before .before .before .before .before .before .before .before .before .before .before .loop .count) (c .before .before .before .before .before .before .before .before .before .before .before .loop .inv) (c .before .before .before .before .before .before .before .before .before .before .before .before .before .before .is-bytes .ensures) (c .before .before .before .before .before .before .before .before .before .before .run-end .ensures)) .sound) _ (c .before .before .before .begin-at .ensures) _ (c .before .next .given .1))
 
 enum-known-number : tie.Need-enum-known-number Inv-loop μ-loop
 enum-known-number c = search needs
 
+stopped-requires : tie.Need-stopped-requires Inv-loop μ-loop
+stopped-requires c κs = search needs
+
 returns-2 : tie.Need-returns-2 Inv-loop μ-loop
-returns-2 c = measured-bad _ _ _ _ _ (c .before .before .before .before .before .before .before .before .before .before .before .before .loop .inv) _ _ (step-one _ _ _ _ (sym (c .before .before .before .before .before .before .before .before .before .before .before .scalar-at .ensures) ∙ c .before .before .before .before .before .before .before .before .before .value .given .1)) _ (c .before .before .before .item-at .ensures) _ _ (c .before .number .given .1)
+returns-2 c = c .stopped .ensures ∙ measured-bad _ _ _ _ (measuring-run (c .before .before .before .before .before .before .before .before .before .before .before .before .before .before .before .before .before .args .form) (c .before .before .before .before .before .before .before .before .before .before .before .before .before .before .before .before .before .args .s .now) (c .before .before .before .before .before .before .before .before .before .before .before .before .loop .at) (c .before .before .before .before .before .before .before .before .before .before .before .before .loop .count) (c .before .before .before .before .before .before .before .before .before .before .before .before .loop .inv) (c .before .before .before .before .before .before .before .before .before .before .before .before .before .before .before .is-bytes .ensures) (c .before .before .before .before .before .before .before .before .before .before .before .run-end .ensures)) _ _ (begun-bad (c .before .before .before .before .before .before .before .before .before .before .before .before .before .before .before .before .before .args .form) (c .before .before .before .before .before .before .before .before .before .before .before .before .before .before .before .before .before .args .s .now) (c .before .before .before .before .before .before .before .before .before .before .before .run-end .result) (c .before .before .before .before .before .before .before .before .before .before .if1 .left) ((measuring-run (c .before .before .before .before .before .before .before .before .before .before .before .before .before .before .before .before .before .args .form) (c .before .before .before .before .before .before .before .before .before .before .before .before .before .before .before .before .before .args .s .now) (c .before .before .before .before .before .before .before .before .before .before .before .before .loop .at) (c .before .before .before .before .before .before .before .before .before .before .before .before .loop .count) (c .before .before .before .before .before .before .before .before .before .before .before .before .loop .inv) (c .before .before .before .before .before .before .before .before .before .before .before .before .before .before .before .is-bytes .ensures) (c .before .before .before .before .before .before .before .before .before .before .before .run-end .ensures)) .sound) _ (c .before .before .before .before .begin-at .ensures) _ _ (c .before .before .number .given .1))
 
 pub measure-spec : {M : Type 1} → statement M
 measure-spec =
@@ -106,31 +120,36 @@ measure-spec =
     (tie.spec
     Inv-loop
     μ-loop
+    is-bytes-requires
+    is-template-requires
+    short-limit-requires
     loop-holds
-    scalar-at-requires
-    enum-known-value
-    enum-told
-    returns
-    is-itself-requires
-    add-items
+    run-end-requires
+    sub-count
     add-count
+    returns
+    escaped-at-requires
+    short-escape-requires
+    add-count-2
+    add-at
     loop-less
     loop-again
-    stands-requires
-    item-bytes-requires
-    add-items-2
-    add-count-2
+    long-at-requires
+    item-len-requires
+    add-count-3
+    cast-at
+    add-at-2
     loop-less-2
     loop-again-2
-    item-at-requires
-    enum-known-item
-    item-bytes-requires-2
-    add-items-3
-    add-count-3
+    begin-at-requires
+    enum-known-value
+    item-len-requires-2
+    add-count-4
     loop-less-3
     loop-again-3
-    enum-known-end
+    enum-known-next
     loop-less-4
     loop-again-4
     enum-known-number
+    stopped-requires
     returns-2)

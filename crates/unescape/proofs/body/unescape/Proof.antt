@@ -2,6 +2,7 @@ use mathlib.Core.Path.{sym, ap, _∙_}
 use borrow.Author.Needs.{needs}
 use lib.Seq.{sets}
 use lib.ListN.{length}
+use Rattle.sound.proofs.Places.{sound-inv}
 use Rattle.unescape.proofs.Bodies.{refused-answer, refused-store, source-ill, source-long, source-misplaced, source-sound}
 use Rattle.unescape.specs.Bodies.{Result}
 use Rattle.unescape.proofs.body.unescape.Statement.{statement}
@@ -14,7 +15,7 @@ enum-told : tie.Need-enum-told
 enum-told c = search needs
 
 unescape-sound-requires : tie.Need-unescape-sound-requires
-unescape-sound-requires c κs = search needs
+unescape-sound-requires c κs = sound-inv (c .before .before .before .before .before .before .args .body .now) (sym (c .before .before .before .test-source .ensures) ∙ c .before .enum-told .given .1) .1
 
 enum-told-2 : tie.Need-enum-told-2
 enum-told-2 c = search needs

@@ -1,0 +1,81 @@
+-- Fast ways through a body: runs of bytes that stand for themselves, and escapes by value. They are no rules of document 01; proofs/ has what they are in its terms.
+use Prim.Native.Nat.{ℕ, _+_, _-_, _/_, _%_, _<_}
+use mathlib.Core.Path.{_≡_}
+use mathlib.Core.List.{List, [], _∷_}
+use mathlib.Core.Bool.{Bool, true, false}
+use lib.Dec.{leb, eqb}
+use lib.ListN.{getD}
+use Rattle.digits.specs.Digits.{hexValue, isHexDigit}
+use Rattle.encoding.specs.Encode.{isScalar}
+use Rattle.escapes.specs.declared.Escape.{Escape}
+use Rattle.escapes.specs.declared.Escape.the-variants.{Item, Skipped}
+use Rattle.items.specs.Items.{itemOf}
+use Rattle.items.specs.declared.Form.{Form}
+use Rattle.laws.specs.Bools.{pick}
+use Rattle.text.specs.Utf8.{width}
+
+-- the bytes before the first backslash: in text each scalar among them stands for itself
+unfoldable pub bareOf : List ℕ → List ℕ
+bareOf [] = []
+bareOf (b ∷ s) = elim (eqb b 0x5c) [ true ↦ [] | false ↦ b ∷ bareOf s ]
+
+-- .. and before the first above 0x7f
+unfoldable pub asciiOf : List ℕ → List ℕ
+asciiOf [] = []
+asciiOf (b ∷ s) = elim (leb b 0x7f) [ true ↦ b ∷ asciiOf s | false ↦ [] ]
+
+-- the bytes that stand for themselves, in bytes or in text
+abbrev pub runOf : Bool → List ℕ → List ℕ
+runOf bytes s = pick bytes (asciiOf (bareOf s)) (bareOf s)
+
+-- the byte behind a backslash at a place, 0 where none stands there
+unfoldable pub escapedAt : List ℕ → ℕ → ℕ
+escapedAt s at = pick (eqb (getD s at 0) 0x5c) (getD s (at + 1) 0) 0
+
+-- one more than what a byte behind a backslash stands for where the escape is these two bytes: 0x80 more again where only templates have it, and 0xff for no such escape
+unfoldable pub shortOf : ℕ → ℕ
+shortOf v =
+    pick (eqb v 0x27) 0x28
+    (pick (eqb v 0x22) 0x23
+    (pick (eqb v 0x6e) 0x0b
+    (pick (eqb v 0x72) 0x0e
+    (pick (eqb v 0x74) 0x0a
+    (pick (eqb v 0x5c) 0x5d
+    (pick (eqb v 0x30) 0x01
+    (pick (eqb v 0x24) 0xa5
+    (pick (eqb v 0x60) 0xe1 0xff))))))))
+
+-- .. and what it stands for
+abbrev pub itemIn : ℕ → ℕ
+itemIn x = x % 128 - 1
+
+-- what is below this is an escape
+abbrev pub limitOf : Bool → ℕ
+limitOf template = pick template 0xff 0x80
+
+-- what begins with the scalars cs, the first of which stands at p; nothing where there is none
+unfoldable pub beginsOf : Form → List ℕ → ℕ → Escape
+beginsOf form [] p = Skipped p
+beginsOf form (v ∷ cs) p = itemOf form v cs (p + width v)
+
+-- an item in one number, 16 times it and the length of its escape from p on, since a number needs no memory; 0 says nothing of e
+abbrev pub Packed : ℕ → Escape → ℕ → Type 0
+Packed p e r = 0 < r → Item (r / 16) (p + r % 16) ≡ e
+
+-- a scalar in braces, the last of which is i bytes behind the backslash
+pub record IsClosed (some : Bool) (x i r : ℕ) : Type 0 where
+  pub digits : some ≡ true
+  pub scalar : isScalar x ≡ true
+  pub item : r / 16 ≡ x
+  pub place : r % 16 ≡ i + 1
+
+abbrev pub Closed : Bool → ℕ → ℕ → ℕ → Type 0
+Closed some x i r = 0 < r → IsClosed some x i r
+
+-- r is what the hex digit v stands for, unless it is 16 or more: one test for both, where `is_ascii_hexdigit` and `hex_value` are two
+pub record IsHex (v r : ℕ) : Type 0 where
+  pub digit : isHexDigit v ≡ true
+  pub value : r ≡ hexValue v
+
+abbrev pub Hex : ℕ → ℕ → Type 0
+Hex v r = r < 16 → IsHex v r
