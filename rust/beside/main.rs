@@ -95,85 +95,101 @@ fn plan(arguments: &[String]) -> Option<Plan> {
         *seed = argument.parse().ok()?;
     }
 
-    let whole = Plan {
-        source_length: 5,
-        body_length: 4,
-        scalars: true,
-        short_scripts: true,
-        sources: 2_000_000,
-        bodies: 2_000_000,
-        scripts: 2_000_000,
-        rules: 500_000,
-        copies: 3,
-        largest: 50,
-        seeds,
-    };
+    Some(if quick { Plan::small(seeds) } else { Plan::whole(seeds) })
+}
 
-    let small = Plan {
-        source_length: 3,
-        body_length: 2,
-        scalars: false,
-        short_scripts: false,
-        sources: 10_000,
-        bodies: 10_000,
-        scripts: 10_000,
-        rules: 2_000,
-        copies: 3,
-        largest: 2,
-        seeds,
-    };
+impl Plan {
+    fn whole(seeds: [u64; 3]) -> Self {
+        Self {
+            source_length: 5,
+            body_length: 4,
+            scalars: true,
+            short_scripts: true,
+            sources: 2_000_000,
+            bodies: 2_000_000,
+            scripts: 2_000_000,
+            rules: 500_000,
+            copies: 3,
+            largest: 50,
+            seeds,
+        }
+    }
 
-    Some(if quick { small } else { whole })
+    fn small(seeds: [u64; 3]) -> Self {
+        Self {
+            source_length: 3,
+            body_length: 2,
+            scalars: false,
+            short_scripts: false,
+            sources: 10_000,
+            bodies: 10_000,
+            scripts: 10_000,
+            rules: 2_000,
+            copies: 3,
+            largest: 2,
+            seeds,
+        }
+    }
+}
+
+/// Hands inputs of one kind to a sink.
+type Make<'a> = Box<dyn Fn(&mut Sink) -> io::Result<()> + 'a>;
+
+/// The kinds of input with their names, in the order in which they are compared.
+fn streams(plan: &Plan) -> Vec<(String, Make<'_>)> {
+    let [of_sources, of_bodies, of_rules] = plan.seeds;
+    let (longest, length) = (plan.body_length, plan.source_length);
+    let mut streams: Vec<(String, Make)> = vec![
+        ("examples".to_owned(), Box::new(examples_all)),
+        ("one unit repeated to 65,535, 65,536 and 65,537 bytes".to_owned(), Box::new(examples::long)),
+        (
+            format!("rule files cut at 65,535, 65,536 and 65,537 bytes, seed {of_rules}"),
+            Box::new(move |sink| rules::largest(sink, plan.largest, of_rules)),
+        ),
+        (
+            format!("rule files, {} damaged copies of each, seed {of_rules}", plan.copies),
+            Box::new(move |sink| rules::files(sink, plan.rules, plan.copies, of_rules)),
+        ),
+        (format!("random sources, seed {of_sources}"), Box::new(move |sink| source::list(sink, plan.sources, of_sources))),
+        (format!("random bodies, seed {of_bodies}"), Box::new(move |sink| escape::random(sink, plan.bodies, of_bodies))),
+        (
+            format!("random scripts of lookahead calls, seed {of_sources}"),
+            Box::new(move |sink| look::random(sink, plan.scripts, of_sources)),
+        ),
+        (format!("every body of up to {longest} scalars, five forms"), Box::new(move |sink| short::escape(sink, longest))),
+    ];
+
+    if plan.scalars {
+        streams.push(("every Unicode scalar where a rule may look at it".to_owned(), Box::new(scalars::all)));
+    }
+    if plan.short_scripts {
+        streams.push(("every script of up to four lookahead calls over 16 small sources".to_owned(), Box::new(look::short)));
+    }
+    streams.push((format!("every source of up to {length} scalars"), Box::new(move |sink| short::list(sink, length))));
+    streams
+}
+
+fn examples_all(sink: &mut Sink) -> io::Result<()> {
+    examples::list(sink)?;
+    examples::escape(sink)?;
+    examples::look(sink)
 }
 
 fn run(plan: &Plan) -> io::Result<()> {
     let began = Instant::now();
     let mut total = Tally::default();
     let mut sink = Sink::new();
-    let [of_sources, of_bodies, of_rules] = plan.seeds;
 
     let named = differences::compare().map_err(|Difference(said)| io::Error::other(said))?;
     println!("differences that are named: {named} inputs, both answers as in docs/DIFFERENCES.md");
 
-    let mut stream = |name: String, make: &mut dyn FnMut(&mut Sink) -> io::Result<()>| {
+    for (name, make) in streams(plan) {
         sink.begin(&name);
         make(&mut sink)?;
         let (tally, seconds) = sink.end();
         println!("{name}: {}, equal in {seconds:.1} s", said(&tally));
         total.add(&tally);
-        Ok::<(), io::Error>(())
-    };
-
-    stream("examples".to_owned(), &mut |sink| {
-        examples::list(sink)?;
-        examples::escape(sink)?;
-        examples::look(sink)
-    })?;
-    stream("one unit repeated to 65,535, 65,536 and 65,537 bytes".to_owned(), &mut examples::long)?;
-    stream(format!("rule files cut at 65,535, 65,536 and 65,537 bytes, seed {of_rules}"), &mut |sink| {
-        rules::largest(sink, plan.largest, of_rules)
-    })?;
-    stream(format!("rule files, {} damaged copies of each, seed {of_rules}", plan.copies), &mut |sink| {
-        rules::files(sink, plan.rules, plan.copies, of_rules)
-    })?;
-    stream(format!("random sources, seed {of_sources}"), &mut |sink| source::list(sink, plan.sources, of_sources))?;
-    stream(format!("random bodies, seed {of_bodies}"), &mut |sink| escape::random(sink, plan.bodies, of_bodies))?;
-    stream(format!("random scripts of lookahead calls, seed {of_sources}"), &mut |sink| look::random(sink, plan.scripts, of_sources))?;
-    stream(format!("every body of up to {} scalars, five forms", plan.body_length), &mut |sink| {
-        short::escape(sink, plan.body_length)
-    })?;
-
-    if plan.scalars {
-        stream("every Unicode scalar where a rule may look at it".to_owned(), &mut scalars::all)?;
     }
-
-    if plan.short_scripts {
-        stream("every script of up to four lookahead calls over 16 small sources".to_owned(), &mut look::short)?;
-    }
-
-    stream(format!("every source of up to {} scalars", plan.source_length), &mut |sink| {
-        short::list(sink, plan.source_length)
-    })?;
 
     println!("all: {}, no difference, in {:.0} s", said(&total), began.elapsed().as_secs_f64());
     Ok(())
