@@ -1,7 +1,6 @@
 -- Document 01, "How one token is read" and "Refusal numbers and places": what a token reader answers.
 use Prim.Native.Nat.{ℕ}
 use Rattle.token.specs.declared.kind.Kind.{Kind}
-use Rattle.token.specs.declared.kind.Kind.the-variants.{Eof}
 use Rattle.token.specs.declared.read.Read.{Read}
 use Rattle.token.specs.declared.read.Read.the-variants.{Got, Refused}
 use Rattle.token.specs.declared.read.Span.{Span}
@@ -17,10 +16,6 @@ pointOf p = spanOf p p
 -- a token is a kind with its data beside its span
 abbrev pub gotOf : Kind → ℕ → ℕ → Read
 gotOf kind start end = Got (record { kind = kind; span = spanOf start end })
-
--- where the source has ended, reading answers 67, a point
-abbrev pub eofOf : ℕ → Read
-eofOf p = Got (record { kind = Eof; span = pointOf p })
 
 -- a refusal has a number, a span and the place reached
 abbrev pub refusedOf : ℕ → ℕ → ℕ → ℕ → Read
