@@ -3,7 +3,7 @@ use Prim.Native.Nat.{ℕ}
 use mathlib.Core.Path.{_≡_}
 use mathlib.Core.List.{List}
 use denote.Ref.{RefT}
-use Rattle.laws.proofs.Determined.{determined}
+use Rattle.laws.proofs.Determined.{determined, determined-both}
 use Rattle.source.specs.Reader.{movedOf, newOf, nextOf, peek2Of, peekOf, posOf}
 use Rattle.source.specs.declared.Source.{Source}
 use Rattle.text.specs.declared.utf8.Scalar.{Scalar}
@@ -22,4 +22,4 @@ module _ (it : Source) where
   peek2-determined r q h k = determined r q h k
 
   pub next-determined : (r q : Scalar) (v w : Source) → (v ≡ movedOf it) × (r ≡ nextOf it) → (w ≡ movedOf it) × (q ≡ nextOf it) → (v ≡ w) × (r ≡ q)
-  next-determined r q v w h k = (determined v w (h .0) (k .0), determined r q (h .1) (k .1))
+  next-determined r q v w h k = determined-both v w r q h k
