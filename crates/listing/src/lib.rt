@@ -12,9 +12,10 @@ ghost use mathlib.Core.Path.{_≡_};
 ghost use lib.Seq.{sets};
 ghost use lib.ListN.{length};
 ghost use Rattle.lexer.specs.Next.{nextAt};
-ghost use Rattle.listing.specs.Listing.{answerOf, listOf, pointRefusal, storedOf, wordsOf};
+ghost use Rattle.listing.specs.Listing.{answerOf, listOf, storedOf, wordsOf};
 ghost use Rattle.listing.specs.declared.Listed.the-variants.{Stopped};
 ghost use Rattle.readers.specs.Rules.{base};
+ghost use Rattle.token.specs.Reads.{pointRefusal};
 ghost use Rattle.tokens.specs.Tokens.{tokensAt};
 
 // The count of stored tokens, with the refusal that ended the listing if there was one.

@@ -12,8 +12,7 @@ use Rattle.outline.specs.declared.Outlined.the-variants.{Stopped, Whole}
 use Rattle.readers.specs.Rules.{Rules, base}
 use Rattle.sound.specs.Source.{sourceTest}
 use Rattle.sound.specs.declared.Tested.the-variants.{IllFormed, Misplaced, Sound, TooLong}
-use Rattle.token.specs.Reads.{pointOf}
-use Rattle.token.specs.declared.read.Refusal.{Refusal}
+use Rattle.token.specs.Reads.{pointRefusal}
 use Rattle.token.specs.declared.read.Token.{Token}
 use Rattle.tokens.specs.Tokens.{Tokens, fin, halt, more, tokensAt}
 
@@ -42,9 +41,6 @@ unfoldable pub answerOf : Tokens → Outlined
 answerOf fin = Whole
 answerOf (halt r) = Stopped r
 answerOf (more k ts) = answerOf ts
-
-abbrev pub pointRefusal : ℕ → ℕ → Refusal
-pointRefusal number p = record { number = number; span = pointOf p; reached = p }
 
 -- 1, 2, then 3 for a buffer shorter than the source
 unfoldable pub outlineOf : List ℕ → ℕ → Outlined

@@ -15,9 +15,10 @@ ghost use lib.Dec.{leb, ltb};
 ghost use lib.Seq.{sets, slice};
 ghost use lib.ListN.{length};
 ghost use Rattle.laws.specs.Bools.{both, pick};
-ghost use Rattle.outline.specs.Outline.{answerOf, between, outlineOf, outlined, paint, pointRefusal, writtenOf};
+ghost use Rattle.outline.specs.Outline.{answerOf, between, outlineOf, outlined, paint, writtenOf};
 ghost use Rattle.outline.specs.declared.Outlined.the-variants.{Stopped};
 ghost use Rattle.readers.specs.Rules.{base};
+ghost use Rattle.token.specs.Reads.{pointRefusal};
 ghost use Rattle.tokens.specs.Tokens.{tokensAt};
 
 pub enum Outlined {
