@@ -16,11 +16,13 @@ use Rattle.token.specs.Reads.{pointRefusal}
 use Rattle.token.specs.declared.read.Token.{Token}
 use Rattle.tokens.specs.Tokens.{Tokens, fin, halt, more, tokensAt}
 
+-- a byte at i of a piece up to e, with an inside from lo on that ends `kept` bytes before e
+abbrev pub between : Bool → ℕ → ℕ → ℕ → ℕ → Bool
+between inside lo kept e i = both inside (both (leb lo i) (ltb (i + kept) e))
+
 -- the byte at i lies inside the token k
 unfoldable pub insideToken : Token → ℕ → Bool
-insideToken k i =
-    both (hasInside (k .kind))
-    (both (leb (k .span .start + length (openMark (k .kind))) i) (ltb (i + length (closeMark (k .kind))) (k .span .end)))
+insideToken k i = between (hasInside (k .kind)) (k .span .start + length (openMark (k .kind))) (length (closeMark (k .kind))) (k .span .end) i
 
 -- .. inside one of the tokens: the first that ends past it decides, and nothing of a refused one is inside
 unfoldable pub insideAt : Tokens → ℕ → Bool
@@ -61,7 +63,3 @@ writtenOf s room =
       | IllFormed p ↦ []
       | Misplaced p ↦ []
     ]
-
--- a byte at i of a piece up to e, with an inside from lo on that ends `kept` bytes before e
-abbrev pub between : Bool → ℕ → ℕ → ℕ → ℕ → Bool
-between inside lo kept e i = both inside (both (leb lo i) (ltb (i + kept) e))
