@@ -2,6 +2,10 @@
 use text::Scalar;
 use token::Kind;
 use token::Read;
+use token::refusal::EXPECTED_CHAR_CLOSE;
+use token::refusal::EXPECTED_CHAR_OR_LABEL;
+use token::refusal::EXPECTED_ESCAPE;
+use token::refusal::UNTERMINATED_CHAR_LIT;
 ghost use mathlib.Core.Path.{_≡_};
 ghost use Rattle.readers.specs.Readers.{charAnswer, charOf, inLabel, letters};
 ghost use Rattle.readers.specs.Rules.{base};
@@ -22,9 +26,9 @@ fn char_or_label(label: bool, some: bool, start: usize, end: usize) -> Read
 {
     if !some {
         if label {
-            return token::refused(13, start, end, end);
+            return token::refused(EXPECTED_CHAR_OR_LABEL, start, end, end);
         }
-        return token::refused(12, start, end, end);
+        return token::refused(EXPECTED_CHAR_CLOSE, start, end, end);
     }
     if label {
         return token::got(Kind::Label, start, end);
@@ -51,7 +55,7 @@ pub fn next_char_or_label(s: &[u8], start: usize, at: usize) -> Read
                 next: after,
             } = text::scalar_at(s, next)
             else {
-                return token::refused(10, p, next, next);
+                return token::refused(EXPECTED_ESCAPE, p, next, next);
             };
             label = false;
             some = true;
@@ -61,7 +65,7 @@ pub fn next_char_or_label(s: &[u8], start: usize, at: usize) -> Read
             p = next;
         } else {
             if classes::is_control(value) {
-                return token::refused(11, start, p, p);
+                return token::refused(UNTERMINATED_CHAR_LIT, start, p, p);
             }
             if label {
                 if some {

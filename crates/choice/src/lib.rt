@@ -3,6 +3,7 @@ use operators::Operator;
 use text::Scalar;
 use token::Kind;
 use token::Read;
+use token::refusal::UNEXPECTED_CHAR;
 ghost use mathlib.Core.Path.{_≡_};
 ghost use Rattle.choice.specs.Rule.{firstOf, leftOf, noTemplate, otherOf};
 ghost use Rattle.readers.specs.Rules.{base};
@@ -24,7 +25,7 @@ fn read_left(s: &[u8], value: u32, start: usize, at: usize) -> Read
     if value == 39 {
         return chars::next_char_or_label(s, start, at);
     }
-    token::refused(18, start, at, at)
+    token::refused(UNEXPECTED_CHAR, start, at, at)
 }
 
 fn read_other(s: &[u8], value: u32, start: usize, at: usize) -> Read

@@ -75,7 +75,6 @@ module _ (m : ℕ → Bool) where
 
 -- x, as often as it stands there
 pub xs-run : (t : List ℕ) (k p : ℕ) → p + k ≤ length t → ((i : ℕ) → i < k → getD t (p + i) 0 ≡ 120) → rest t p ≡ xs k ++ rest t (p + k)
-unfolding xs
 xs-run t zero p h g = let e : p ≡ p + 0 = omega arith in ap (rest t) e
 xs-run t (suc k) p h g =
     let e : p + 0 ≡ p = omega arith in

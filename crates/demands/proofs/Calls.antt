@@ -5,7 +5,7 @@ use mathlib.Core.List.{List}
 use mathlib.Core.Bool.{Bool}
 use lib.Seq.{sets}
 use lib.ListN.{length}
-use Rattle.laws.proofs.Determined.{determined}
+use Rattle.laws.proofs.Determined.{determined, determined-both}
 use Rattle.lexer.specs.Next.{laterAt, nextAt, readAt}
 use Rattle.listing.specs.Listing.{listOf, storedOf}
 use Rattle.listing.specs.declared.Listed.{Listed}
@@ -16,10 +16,6 @@ use Rattle.sound.specs.declared.Tested.{Tested}
 use Rattle.text.specs.Utf8.{scalarAt, secondAt}
 use Rattle.text.specs.declared.utf8.Scalar.{Scalar}
 use Rattle.token.specs.declared.read.Read.{Read}
-
--- a promise with an answer and a lent slice afterwards
-pub determined-both : {A : Type 0} {d : A} {l : List ℕ} (r q : A) (v w : List ℕ) → (r ≡ d) × (v ≡ l) → (q ≡ d) × (w ≡ l) → (r ≡ q) × (v ≡ w)
-determined-both r q v w h k = (determined r q (h .0) (k .0), determined v w (h .1) (k .1))
 
 module _ (s : List ℕ) where
   pub test-source-determined : (r q : Tested) → r ≡ sourceTest s → q ≡ sourceTest s → r ≡ q

@@ -1,9 +1,10 @@
 -- Scalars painted: in parts, all of them, none of them. Assumes nothing.
-use Prim.Native.Nat.{ℕ, zero, suc, _+_, _≤_, _<_}
+use Prim.Native.Nat.{ℕ, _+_, _≤_, _<_}
 use mathlib.Core.Path.{_≡_, refl, sym, ap, _∙_}
 use mathlib.Core.List.{List, [], _∷_, _++_, append-assoc}
 use mathlib.Core.Bool.{Bool, true, false}
 use native.Mathlib.Omega.{arith}
+use lib.ListN.{replicate-append-replicate}
 use Rattle.demands.specs.Scalars.{Even, flat}
 use Rattle.families.proofs.Ends.{after-append, after-le}
 use Rattle.families.proofs.Shown.{after-shift, after-xs}
@@ -13,11 +14,6 @@ use Rattle.laws.proofs.Cases.{split}
 use Rattle.readers.specs.Rules.{base}
 use Rattle.text.proofs.Decode.{width-pos}
 use Rattle.text.specs.Utf8.{width}
-
-pub xs-add : (a b : ℕ) → xs a ++ xs b ≡ xs (a + b)
-unfolding xs
-xs-add zero b = let e : b ≡ 0 + b = omega arith in ap xs e
-xs-add (suc a) b = let e : suc (a + b) ≡ suc a + b = omega arith in ap (λ (l : List ℕ). 120 ∷ l) (xs-add a b) ∙ ap xs e
 
 pub wide-x : base .wide 120 ≡ 1
 unfolding width
@@ -61,12 +57,12 @@ module _ (m : ℕ → Bool) where
   flat-none (v ∷ a) p h = rw (here v a p false h) (ap (λ (l : List ℕ). v ∷ l) (flat-none a (p + width v) (later v a p false h)))
 
   pub flat-all : (a : List ℕ) (p : ℕ) → Const a p true → flat m a p ≡ xs (placeAfter base a 0)
-  unfolding flat placeAfter xs
+  unfolding flat placeAfter
   flat-all [] p h = refl
   flat-all (v ∷ a) p h =
       let e : width v + placeAfter base a 0 ≡ placeAfter base a (0 + width v) = let z = after-shift base a (0 + width v) in omega arith in
       rw (here v a p true h)
-      (ap (λ (l : List ℕ). xs (width v) ++ l) (flat-all a (p + width v) (later v a p true h)) ∙ xs-add (width v) (placeAfter base a 0) ∙ ap xs e)
+      (ap (λ (l : List ℕ). xs (width v) ++ l) (flat-all a (p + width v) (later v a p true h)) ∙ replicate-append-replicate {A = ℕ} (width v) (placeAfter base a 0) 120 ∙ ap xs e)
 
   pub even-const : (a : List ℕ) (p : ℕ) (b : Bool) → Const a p b → Even m a p
   unfolding placeAfter

@@ -60,9 +60,6 @@ module _ (R : Rules) where
   next-lands n (v ∷ cs) p = inr (next-consumes n v cs p)
 
   -- so what was read is a front of the scalars
-  pub token-cut : (d : ℕ) (cs : List ℕ) (p : ℕ) → Cut R cs p (reachedOf (tokenOf R d cs p))
-  token-cut d cs p = lands-cut cs p (reachedOf (tokenOf R d cs p)) (token-lands R d cs p)
-
   pub next-cut : (n : ℕ) (cs : List ℕ) (p : ℕ) → Cut R cs p (reachedOf (nextOf R n cs p))
   next-cut n cs p = lands-cut cs p (reachedOf (nextOf R n cs p)) (next-lands n cs p)
 

@@ -4,7 +4,7 @@ use mathlib.Core.Path.{_≡_, refl, sym, ap, _∙_}
 use mathlib.Core.List.{List, [], _∷_, _++_}
 use mathlib.Core.Bool.{Bool, true, false}
 use native.Mathlib.Omega.{arith}
-use lib.ListN.{length}
+use lib.ListN.{length, length-replicate}
 use borrow.Author.Tests.{eq-eqb, le-ltb}
 use Rattle.choice.specs.Rule.{Deep, firstOf, leftOf, otherOf, tokenWith}
 use Rattle.classes.specs.Classes.{whiteSpace}
@@ -24,18 +24,13 @@ use Rattle.token.specs.Reads.{gotOf}
 use Rattle.token.specs.declared.kind.Kind.the-variants.{Comment, MultilineComment, Template}
 use Rattle.token.specs.declared.read.Read.{Read}
 
-pub length-xs : (j : ℕ) → length (xs j) ≡ j
-unfolding xs
-length-xs zero = refl
-length-xs (suc j) = ap suc (length-xs j)
-
 -- near scalars behind it and at least as many x as there were scalars fit where the inside did
 pub near-fits : (n : ℕ) (form : Form) (mid back : List ℕ) (j : ℕ) (y : List ℕ) → Fits n form mid back → length mid ≤ j → Near back y → Fits n form (xs j) y
 near-fits n lineForm mid [] j [] f l h = tt
 near-fits n lineForm mid [] j (w ∷ y) f l h = absurd h
 near-fits n lineForm mid (v ∷ x) j [] f l h = absurd h
 near-fits n lineForm mid (v ∷ x) j (w ∷ y) f l h = sym (h .0) ∙ f
-near-fits n (commentForm true) mid back j y f l h = let e = length-xs j in omega arith
+near-fits n (commentForm true) mid back j y f l h = let e = length-replicate {A = ℕ} j 120 in omega arith
 near-fits n (commentForm false) mid back j y f l h = near-end back y f h
 near-fits n (stringForm b e) mid back j y f l h = tt
 near-fits n (templateForm true) mid back j y f l h = tt
@@ -45,12 +40,12 @@ module _ (R : Rules) where
   -- over x, in a state that x does not change
   scan-xs : {S : Type 0} (step : S → ℕ → List ℕ → Act S) (s : S) → ((cs : List ℕ) → step s 120 cs ≡ on s) → (j l : ℕ) (x : List ℕ) (p : ℕ)
       → (l′ : ℕ) × (scan step R s l (xs j ++ x) p ≡ scan step R s l′ x (placeAfter R (xs j) p))
-  unfolding scan xs placeAfter
+  unfolding scan placeAfter
   scan-xs step s h zero l x p = (l, refl)
   scan-xs step s h (suc j) l x p = rw (h (xs j ++ x), scan) (scan-xs step s h j p x (p + R .wide 120))
 
   comment-xs : (k j l : ℕ) (x : List ℕ) (p : ℕ) → (l′ : ℕ) × (scan commentStep R (skips k) l (xs j ++ x) p ≡ scan commentStep R (skips (k - j)) l′ x (placeAfter R (xs j) p))
-  unfolding scan commentStep xs placeAfter
+  unfolding scan commentStep placeAfter
   comment-xs k zero l x p = let e : k ≡ k - 0 = omega arith in (l, ap (λ (m : ℕ). scan commentStep R (skips m) l x p) e)
   comment-xs zero (suc j) l x p =
       let r = comment-xs zero j p x (p + R .wide 120) in let e : 0 - j ≡ 0 - suc j = omega arith in
@@ -60,7 +55,7 @@ module _ (R : Rules) where
       (r .0, r .1 ∙ ap (λ (m : ℕ). scan commentStep R (skips m) (r .0) x (placeAfter R (xs j) (p + R .wide 120))) e)
 
   body-xs : (next : List ℕ → ℕ → Read) (a j : ℕ) (x : List ℕ) (p : ℕ) → bodyOf R next a 0 (xs j ++ x) p 0 ≡ bodyOf R next a 0 x (placeAfter R (xs j) p) 0
-  unfolding bodyOf turnOf xs placeAfter
+  unfolding bodyOf turnOf placeAfter
   body-xs next a zero x p = refl
   body-xs next a (suc j) x p = rw (le-ltb p 0 (omega arith), bodyOf) (body-xs next a j x (p + R .wide 120))
 
@@ -115,7 +110,7 @@ module _ (R : Rules) where
     unfolding firstOf placeAfter inRanges whiteSpace templateOf
     token-painted lineForm j x p f = by-rule 47 (47 ∷ (xs j ++ x)) p ∙ line-painted p j (p + R .wide 47 + R .wide 47) x f
     token-painted (commentForm true) j x p f =
-        by-rule 47 (42 ∷ (xs j ++ (42 ∷ (47 ∷ x)))) p ∙ comment-painted p j (p + R .wide 47 + R .wide 42) x (let e = length-xs j in omega arith)
+        by-rule 47 (42 ∷ (xs j ++ (42 ∷ (47 ∷ x)))) p ∙ comment-painted p j (p + R .wide 47 + R .wide 42) x (let e = length-replicate {A = ℕ} j 120 in omega arith)
     token-painted (commentForm false) j x p f =
         ap (λ (z : List ℕ). tokenOf R (suc d) (47 ∷ (42 ∷ (xs j ++ z))) p) f ∙ by-rule 47 (42 ∷ (xs j ++ [])) p ∙ comment-open p j (p + R .wide 47 + R .wide 42)
     token-painted (stringForm false e) j x p f = by-rule 34 (xs j ++ (34 ∷ x)) p ∙ str-painted p j (p + R .wide 34) false x

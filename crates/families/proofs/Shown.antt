@@ -35,7 +35,7 @@ module _ (R : Rules) where
   after-shift (v ∷ f) p = let a = after-shift f (p + R .wide v) in let b = after-shift f (0 + R .wide v) in omega arith
 
   pub after-xs : R .wide 120 ≡ 1 → (j p : ℕ) → placeAfter R (xs j) p ≡ p + j
-  unfolding placeAfter xs
+  unfolding placeAfter
   after-xs one zero p = omega arith
   after-xs one (suc j) p = let a = after-xs one j (p + R .wide 120) in omega arith
 

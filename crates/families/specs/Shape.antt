@@ -1,10 +1,10 @@
 -- What a token with an inside looks like: a mark before the inside, the inside, a mark behind it, and what may follow.
-use Prim.Native.Nat.{ℕ, zero, suc, _≤_}
+use Prim.Native.Nat.{ℕ, _≤_}
 use mathlib.Core.Path.{_≡_}
 use mathlib.Core.List.{List, [], _∷_, _++_}
 use mathlib.Core.Bool.{Bool, true, false}
 use mathlib.Core.Logic.{_⊎_}
-use lib.ListN.{length}
+use lib.ListN.{length, replicate}
 use Rattle.families.specs.Places.{placeAfter}
 use Rattle.numbers.specs.Kinds.{hasInside}
 use Rattle.readers.specs.Readers.{strKind}
@@ -81,9 +81,8 @@ plainForm (stringForm b e) = stringForm b false
 plainForm (templateForm c) = templateForm c
 
 -- as many x
-unfoldable pub xs : ℕ → List ℕ
-xs zero = []
-xs (suc j) = 120 ∷ xs j
+abbrev pub xs : ℕ → List ℕ
+xs j = replicate j 120
 
 -- a token's scalars with as many x as its inside takes places, and y behind them
 abbrev pub painted : Rules → Form → List ℕ → List ℕ → List ℕ

@@ -1,9 +1,3 @@
-fill('is_ws', {
-    'returns': 'simp ($number$, within-yes 1 4 $n$ (omega arith) (omega arith))',
-    'returns-2': 'simp ($number$, within-low 1 4 $n$ (omega arith))',
-    'returns-3': 'simp ($number$, within-high 1 4 $n$ (omega arith))'},
-    head='The ranges of the match are those of the definition. Assumes nothing.',
-    macros={'number': '← @number-of .ensures', 'n': '(@number-of .result)'})
 fill('has_inside', {
     'returns': 'simp ($number$, within-low 2 4 $n$ (omega arith), within-low 11 14 $n$ (omega arith), $not16$)',
     'returns-2': 'simp ($number$, within-high 2 4 $n$ (omega arith), within-low 11 14 $n$ (omega arith), $not16$)',

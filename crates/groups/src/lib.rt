@@ -1,18 +1,8 @@
-// The groups of kinds that the lookahead and the outline ask for, by number.
+// The kinds that the outline paints, by number.
 use numbers::number_of;
 use token::Kind;
 ghost use mathlib.Core.Path.{_≡_};
-ghost use Rattle.numbers.specs.Kinds.{hasInside, isWs};
-
-// Whether the lookahead takes it for white space.
-pub fn is_ws(kind: Kind) -> bool
-    ensures { λ r. ⌜ r ≡ isWs kind ⌝ }
-{
-    match number_of(kind) {
-        1..=4 => true,
-        _ => false,
-    }
-}
+ghost use Rattle.numbers.specs.Kinds.{hasInside};
 
 // Whether the outline paints what stands between its marks.
 pub fn has_inside(kind: Kind) -> bool

@@ -30,16 +30,19 @@ abbrev pub closeSpan : ℕ → Read → Read
 closeSpan n (Got k) = Got k
 closeSpan n (Refused r) = pick (eqb (r .number) 12) (refusedOf 12 (r .span .start) n (r .reached)) (Refused r)
 
--- the token at p of a source that ends at n; cs are the scalars from p on
+-- the token at p of a source that ends at n, where no shebang stands; cs are the scalars from p on
+abbrev pub laterOf : Rules → ℕ → List ℕ → ℕ → Read
+laterOf R n cs p = closeSpan n (tokenOf R 64 cs p)
+
+-- .. anywhere: a shebang stands at position 0 only
 unfoldable pub nextOf : Rules → ℕ → List ℕ → ℕ → Read
-nextOf R n cs p = pick (both (eqb p 0) (isShebang cs)) (shebangOf R cs p) (closeSpan n (tokenOf R 64 cs p))
+nextOf R n cs p = pick (both (eqb p 0) (isShebang cs)) (shebangOf R cs p) (laterOf R n cs p)
 
 unfoldable pub nextAt : List ℕ → ℕ → Read
 nextAt s at = nextOf base (length s) (rest s at) at
 
--- the same where no shebang can stand, behind position 0
 unfoldable pub laterAt : List ℕ → ℕ → Read
-laterAt s at = closeSpan (length s) (tokenOf base 64 (rest s at) at)
+laterAt s at = laterOf base (length s) (rest s at) at
 
 -- 1, 2 and 4 in this order, then reading
 unfoldable pub readAt : List ℕ → ℕ → Read

@@ -4,6 +4,10 @@ use templates::read_token;
 use text::Scalar;
 use token::Kind;
 use token::Read;
+use token::refusal::EXPECTED_CHAR_CLOSE;
+use token::refusal::ILL_FORMED;
+use token::refusal::NO_PLACE;
+use token::refusal::TOO_LONG;
 ghost use mathlib.Core.Path.{_≡_};
 ghost use Rattle.lexer.specs.Next.{closeSpan, isShebang, laterAt, nextAt, readAt};
 ghost use Rattle.text.specs.Utf8.{rest};
@@ -33,10 +37,15 @@ fn close_span(end: usize, r: Read) -> Read
     match r {
         Read::Got { token } => Read::Got { token },
         Read::Refused { refusal } => {
-            if refusal.number != 12 {
+            if refusal.number != EXPECTED_CHAR_CLOSE {
                 return Read::Refused { refusal };
             }
-            token::refused(12, refusal.span.start, end, refusal.reached)
+            token::refused(
+                EXPECTED_CHAR_CLOSE,
+                refusal.span.start,
+                end,
+                refusal.reached,
+            )
         }
     }
 }
@@ -65,8 +74,8 @@ pub fn read(s: &[u8], at: usize) -> Read
 {
     match sound::test_position(s, at) {
         Tested::Sound => next(s, at),
-        Tested::TooLong => token::refused(1, 0, 0, 0),
-        Tested::IllFormed { at: bad } => token::refused(2, bad, bad, bad),
-        Tested::Misplaced { at: bad } => token::refused(4, bad, bad, bad),
+        Tested::TooLong => token::refused(TOO_LONG, 0, 0, 0),
+        Tested::IllFormed { at: bad } => token::refused(ILL_FORMED, bad, bad, bad),
+        Tested::Misplaced { at: bad } => token::refused(NO_PLACE, bad, bad, bad),
     }
 }

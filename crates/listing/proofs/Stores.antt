@@ -8,7 +8,7 @@ use lib.ListN.{length, length-set, set}
 use borrow.Author.Tests.{le-ltb, lt-ltb}
 use Rattle.laws.specs.Bools.{same}
 use Rattle.lexer.specs.Next.{nextAt}
-use Rattle.listing.specs.Listing.{answerOf, listOf, noRoom, pointRefusal, storedOf, wordsOf}
+use Rattle.listing.specs.Listing.{answerOf, listOf, noRoom, storedOf, wordsOf}
 use Rattle.listing.specs.declared.Listed.{Listed}
 use Rattle.listing.specs.declared.Listed.the-variants.{Stopped, Whole}
 use Rattle.numbers.specs.Kinds.{numberOf}
@@ -16,6 +16,7 @@ use Rattle.readers.specs.Rules.{base}
 use Rattle.sound.specs.Source.{sourceTest}
 use Rattle.sound.specs.declared.Tested.{Tested}
 use Rattle.sound.specs.declared.Tested.the-variants.{IllFormed, Misplaced, Sound, TooLong}
+use Rattle.token.specs.Reads.{pointRefusal}
 use Rattle.token.specs.declared.read.Read.{Read}
 use Rattle.token.specs.declared.read.Read.the-variants.{Got, Refused}
 use Rattle.token.specs.declared.read.Refusal.{Refusal}

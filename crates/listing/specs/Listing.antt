@@ -9,7 +9,7 @@ use Rattle.numbers.specs.Kinds.{numberOf}
 use Rattle.readers.specs.Rules.{base}
 use Rattle.sound.specs.Source.{sourceTest}
 use Rattle.sound.specs.declared.Tested.the-variants.{IllFormed, Misplaced, Sound, TooLong}
-use Rattle.token.specs.Reads.{pointOf}
+use Rattle.token.specs.Reads.{pointRefusal}
 use Rattle.token.specs.declared.read.Refusal.{Refusal}
 use Rattle.token.specs.declared.read.Token.{Token}
 use Rattle.tokens.specs.Tokens.{Tokens, fin, halt, more, tokensAt}
@@ -33,9 +33,6 @@ unfoldable pub answerOf : Tokens → ℕ → ℕ → Listed
 answerOf fin room n = Whole n
 answerOf (halt r) room n = Stopped n r
 answerOf (more k ts) room n = elim (ltb room 3) [ true ↦ Stopped n (noRoom k) | false ↦ answerOf ts (room - 3) (n + 1) ]
-
-abbrev pub pointRefusal : ℕ → ℕ → Refusal
-pointRefusal number p = record { number = number; span = pointOf p; reached = p }
 
 -- 1 and 2 come first, and store nothing
 unfoldable pub listOf : List ℕ → ℕ → Listed

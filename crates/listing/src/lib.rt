@@ -3,14 +3,19 @@ use sound::Tested;
 use token::Read;
 use token::Refusal;
 use token::Span;
+use token::refusal::ILL_FORMED;
+use token::refusal::NO_PLACE;
+use token::refusal::NO_ROOM;
+use token::refusal::TOO_LONG;
 ghost use Prim.Native.Nat.{_≤_};
 ghost use mathlib.Core.Path.{_≡_};
 ghost use lib.Seq.{sets};
 ghost use lib.ListN.{length};
 ghost use Rattle.lexer.specs.Next.{nextAt};
-ghost use Rattle.listing.specs.Listing.{answerOf, listOf, pointRefusal, storedOf, wordsOf};
+ghost use Rattle.listing.specs.Listing.{answerOf, listOf, storedOf, wordsOf};
 ghost use Rattle.listing.specs.declared.Listed.the-variants.{Stopped};
 ghost use Rattle.readers.specs.Rules.{base};
+ghost use Rattle.token.specs.Reads.{pointRefusal};
 ghost use Rattle.tokens.specs.Tokens.{tokensAt};
 
 // The count of stored tokens, with the refusal that ended the listing if there was one.
@@ -40,7 +45,7 @@ fn no_room(count: usize, span: Span) -> Listed
     Listed::Stopped {
         count,
         refusal: Refusal {
-            number: 3,
+            number: NO_ROOM,
             span,
             reached,
         },
@@ -97,8 +102,8 @@ pub fn list(s: &[u8], store: &mut [u32]) -> Listed
 {
     match sound::test_source(s) {
         Tested::Sound => list_tokens(s, store),
-        Tested::TooLong => refused_at(1, 0),
-        Tested::IllFormed { at } => refused_at(2, at),
-        Tested::Misplaced { at } => refused_at(4, at),
+        Tested::TooLong => refused_at(TOO_LONG, 0),
+        Tested::IllFormed { at } => refused_at(ILL_FORMED, at),
+        Tested::Misplaced { at } => refused_at(NO_PLACE, at),
     }
 }

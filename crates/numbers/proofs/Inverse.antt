@@ -181,7 +181,3 @@ plain-byte-str false = refl
 pub plain-number : (k : Kind) → numberOf (plainKind k) ≡ plainNumber (numberOf k)
 unfolding kinds everyBelow numberOf
 plain-number k = eqb-true _ _ (every-kind (λ k. eqb (numberOf (plainKind k)) (plainNumber (numberOf k))) refl refl k)
-
--- kinds that are the same up to the escape mark have numbers that are the same up to 11 for 12 and 13 for 14
-pub plain-same : (j k : Kind) → plainKind j ≡ plainKind k → plainNumber (numberOf j) ≡ plainNumber (numberOf k)
-plain-same j k e = sym (plain-number j) ∙ ap numberOf e ∙ plain-number k

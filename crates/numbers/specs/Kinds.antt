@@ -108,10 +108,6 @@ unfoldable pub kindOf : ℕ → Known
 kindOf zero = Unknown
 kindOf (suc n) = kindAt kinds n
 
--- `ws!`: kinds 1 to 4
-abbrev pub isWs : Kind → Bool
-isWs k = within 1 4 (numberOf k)
-
 -- the outline paints the inside of kinds 2, 3, 4, 11 to 14 and 16
 abbrev pub hasInside : Kind → Bool
 hasInside k = either (within 2 4 (numberOf k)) (either (within 11 14 (numberOf k)) (eqb (numberOf k) 16))

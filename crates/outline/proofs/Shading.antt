@@ -15,13 +15,14 @@ use Rattle.laws.specs.Bools.{both, pick, same}
 use Rattle.lexer.specs.Next.{nextAt}
 use Rattle.marks.specs.Marks.{closeMark, openMark}
 use Rattle.numbers.specs.Kinds.{hasInside}
-use Rattle.outline.specs.Outline.{answerOf, between, insideAt, insideToken, outlineOf, outlined, paint, pointRefusal, writtenOf}
+use Rattle.outline.specs.Outline.{answerOf, between, insideAt, insideToken, outlineOf, outlined, paint, writtenOf}
 use Rattle.outline.specs.declared.Outlined.{Outlined}
 use Rattle.outline.specs.declared.Outlined.the-variants.{Stopped, Whole}
 use Rattle.readers.specs.Rules.{base}
 use Rattle.sound.specs.Source.{sourceTest}
 use Rattle.sound.specs.declared.Tested.{Tested}
 use Rattle.sound.specs.declared.Tested.the-variants.{IllFormed, Misplaced, Sound, TooLong}
+use Rattle.token.specs.Reads.{pointRefusal}
 use Rattle.token.specs.declared.read.Read.{Read}
 use Rattle.token.specs.declared.read.Read.the-variants.{Got, Refused}
 use Rattle.token.specs.declared.read.Refusal.{Refusal}

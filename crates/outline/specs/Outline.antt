@@ -12,16 +12,17 @@ use Rattle.outline.specs.declared.Outlined.the-variants.{Stopped, Whole}
 use Rattle.readers.specs.Rules.{Rules, base}
 use Rattle.sound.specs.Source.{sourceTest}
 use Rattle.sound.specs.declared.Tested.the-variants.{IllFormed, Misplaced, Sound, TooLong}
-use Rattle.token.specs.Reads.{pointOf}
-use Rattle.token.specs.declared.read.Refusal.{Refusal}
+use Rattle.token.specs.Reads.{pointRefusal}
 use Rattle.token.specs.declared.read.Token.{Token}
 use Rattle.tokens.specs.Tokens.{Tokens, fin, halt, more, tokensAt}
 
+-- a byte at i of a piece up to e, with an inside from lo on that ends `kept` bytes before e
+abbrev pub between : Bool → ℕ → ℕ → ℕ → ℕ → Bool
+between inside lo kept e i = both inside (both (leb lo i) (ltb (i + kept) e))
+
 -- the byte at i lies inside the token k
 unfoldable pub insideToken : Token → ℕ → Bool
-insideToken k i =
-    both (hasInside (k .kind))
-    (both (leb (k .span .start + length (openMark (k .kind))) i) (ltb (i + length (closeMark (k .kind))) (k .span .end)))
+insideToken k i = between (hasInside (k .kind)) (k .span .start + length (openMark (k .kind))) (length (closeMark (k .kind))) (k .span .end) i
 
 -- .. inside one of the tokens: the first that ends past it decides, and nothing of a refused one is inside
 unfoldable pub insideAt : Tokens → ℕ → Bool
@@ -43,9 +44,6 @@ answerOf fin = Whole
 answerOf (halt r) = Stopped r
 answerOf (more k ts) = answerOf ts
 
-abbrev pub pointRefusal : ℕ → ℕ → Refusal
-pointRefusal number p = record { number = number; span = pointOf p; reached = p }
-
 -- 1, 2, then 3 for a buffer shorter than the source
 unfoldable pub outlineOf : List ℕ → ℕ → Outlined
 outlineOf s room =
@@ -65,7 +63,3 @@ writtenOf s room =
       | IllFormed p ↦ []
       | Misplaced p ↦ []
     ]
-
--- a byte at i of a piece up to e, with an inside from lo on that ends `kept` bytes before e
-abbrev pub between : Bool → ℕ → ℕ → ℕ → ℕ → Bool
-between inside lo kept e i = both inside (both (leb lo i) (ltb (i + kept) e))

@@ -4,6 +4,10 @@ use token::Kind;
 use token::Read;
 use token::Refusal;
 use token::Span;
+use token::refusal::ILL_FORMED;
+use token::refusal::NO_PLACE;
+use token::refusal::NO_ROOM;
+use token::refusal::TOO_LONG;
 ghost use Prim.Native.Nat.{_≤_};
 ghost use mathlib.Core.Path.{_≡_};
 ghost use mathlib.Core.List.{[]};
@@ -11,9 +15,10 @@ ghost use lib.Dec.{leb, ltb};
 ghost use lib.Seq.{sets, slice};
 ghost use lib.ListN.{length};
 ghost use Rattle.laws.specs.Bools.{both, pick};
-ghost use Rattle.outline.specs.Outline.{answerOf, between, outlineOf, outlined, paint, pointRefusal, writtenOf};
+ghost use Rattle.outline.specs.Outline.{answerOf, between, outlineOf, outlined, paint, writtenOf};
 ghost use Rattle.outline.specs.declared.Outlined.the-variants.{Stopped};
 ghost use Rattle.readers.specs.Rules.{base};
+ghost use Rattle.token.specs.Reads.{pointRefusal};
 ghost use Rattle.tokens.specs.Tokens.{tokensAt};
 
 pub enum Outlined {
@@ -98,7 +103,7 @@ fn outline_fitting(s: &[u8], out: &mut [u8]) -> Outlined
         × (now (out .exit) ≡ sets (now (out .entry)) 0 (pick (ltb (length (now (out .entry))) (length (now (s .entry)))) [] (outlined base (now (s .entry))))) ⌝ }
 {
     if out.len() < s.len() {
-        return refused_at(3, 0);
+        return refused_at(NO_ROOM, 0);
     }
     outline_tokens(s, out)
 }
@@ -108,8 +113,8 @@ pub fn outline(s: &[u8], out: &mut [u8]) -> Outlined
 {
     match sound::test_source(s) {
         Tested::Sound => outline_fitting(s, out),
-        Tested::TooLong => refused_at(1, 0),
-        Tested::IllFormed { at } => refused_at(2, at),
-        Tested::Misplaced { at } => refused_at(4, at),
+        Tested::TooLong => refused_at(TOO_LONG, 0),
+        Tested::IllFormed { at } => refused_at(ILL_FORMED, at),
+        Tested::Misplaced { at } => refused_at(NO_PLACE, at),
     }
 }

@@ -5,6 +5,9 @@ use buffer::put_bytes;
 use buffer::put_decimal;
 use sound::Tested;
 use token::Read;
+use token::refusal::ILL_FORMED;
+use token::refusal::NO_PLACE;
+use token::refusal::TOO_LONG;
 
 fn put_three(out: &mut [u8], waiting: usize, number: u32, start: usize, end: usize) -> usize {
     let mut waiting = put_decimal(out, waiting, number as u64);
@@ -55,8 +58,8 @@ fn list_tokens(s: &[u8], out: &mut [u8], waiting: usize) -> usize {
 pub fn list(s: &[u8], out: &mut [u8], waiting: usize) -> usize {
     match sound::test_source(s) {
         Tested::Sound => list_tokens(s, out, waiting),
-        Tested::TooLong => put_refused(out, waiting, 1, 0, 0),
-        Tested::IllFormed { at } => put_refused(out, waiting, 2, at, at),
-        Tested::Misplaced { at } => put_refused(out, waiting, 4, at, at),
+        Tested::TooLong => put_refused(out, waiting, TOO_LONG, 0, 0),
+        Tested::IllFormed { at } => put_refused(out, waiting, ILL_FORMED, at, at),
+        Tested::Misplaced { at } => put_refused(out, waiting, NO_PLACE, at, at),
     }
 }

@@ -3,7 +3,7 @@ use Prim.Native.Nat.{ℕ}
 use mathlib.Core.Path.{_≡_}
 use mathlib.Core.List.{List}
 use Rattle.answers.specs.declared.Told.{Told}
-use Rattle.laws.proofs.Determined.{determined}
+use Rattle.laws.proofs.Determined.{determined, determined-both}
 use Rattle.puffsatchel.specs.Calls.{listLeaves, listTells, loadLeaves, loadTells, nextTells, outlineLeaves, outlineTells, readTells, storeLeaves, storeTells, testTells, unescapeLeaves, unescapeTells, version}
 
 -- a promise of what is told, and one of the lent memory beside it
@@ -14,7 +14,7 @@ abbrev pub Left-by : Told → List ℕ → ℕ → List ℕ → List ℕ → Typ
 Left-by t l r o v = (r ≡ t .number) × (o ≡ l) × (v ≡ t .words)
 
 told-determined : (t : Told) (r q : ℕ) (v w : List ℕ) → Told-by t r v → Told-by t q w → (r ≡ q) × (v ≡ w)
-told-determined t r q v w h k = (determined r q (h .0) (k .0), determined v w (h .1) (k .1))
+told-determined t r q v w h k = determined-both r q v w h k
 
 left-determined : (t : Told) (l : List ℕ) (r q : ℕ) (o p v w : List ℕ) → Left-by t l r o v → Left-by t l q p w → (r ≡ q) × (o ≡ p) × (v ≡ w)
 left-determined t l r q o p v w h k = (determined r q (h .0) (k .0), determined o p (h .1) (k .1), determined v w (h .2) (k .2))

@@ -1,19 +1,20 @@
 -- Rows written one behind the other into a lent slice, and the room that they need. Assumes nothing.
-use Prim.Native.Nat.{ℕ, suc, _+_, _-_, _/_, _%_, _≤_, _<_}
+use Prim.Native.Nat.{ℕ, _+_, _-_, _/_, _%_, _≤_, _<_}
 use mathlib.Core.Path.{_≡_, refl, sym, ap, _∙_}
 use mathlib.Core.List.{List, [], _∷_, _++_}
 use native.Mathlib.Omega.{arith}
 use lib.Seq.{length-sets, sets}
-use lib.ListN.{drop, length, length-append, set}
+use lib.ListN.{drop, length, length-append}
 use borrow.Author.Tests.{le-leb, lt-leb}
 use Rattle.laws.proofs.Sets.{sets-append}
 use Rattle.laws.specs.Bools.{same}
 use Rattle.rows.proofs.Rows.{Left, rows-end, rows-more, rows-whole, rowsFrom}
-use Rattle.rows.specs.Rows.{Row, refusalAt, rowsOf, storedIn, unlessRefused}
+use Rattle.rows.specs.Rows.{Row, rowsOf, storedIn, unlessRefused}
 use Rattle.rows.specs.declared.Checked.{Checked}
 use Rattle.rows.specs.declared.Checked.the-variants.{Faulty, Good}
 use Rattle.rows.specs.declared.Stored.{Stored}
 use Rattle.rows.specs.declared.Stored.the-variants.{Done, Refused}
+use Rattle.token.specs.Reads.{pointRefusal}
 use Rattle.token.specs.declared.read.Refusal.{Refusal}
 
 -- `put` writes each row as `one` does, and that is `each` long
@@ -82,7 +83,7 @@ module _ (room : ℕ) (c : Checked) (out : List ℕ) where
   pub stored-faulty : (r : Refusal) → c ≡ Faulty r → Result room c out (Refused r) []
   stored-faulty r e = (rw e, rw e)
 
-  pub stored-short : c ≡ Good → room < length out → Result room c out (Refused (refusalAt 3 0)) []
+  pub stored-short : c ≡ Good → room < length out → Result room c out (Refused (pointRefusal 3 0)) []
   stored-short e h = (rw (e, lt-leb (length out) room h), rw (e, lt-leb (length out) room h))
 
   pub stored-done : c ≡ Good → length out ≤ room → Result room c out (Done (length out)) out

@@ -7,9 +7,10 @@ use lib.Seq.{drop-drop, getD-drop}
 use lib.ListN.{drop, getD, length}
 use borrow.Author.Tests.{eq-eqb, le-ltb, lt-ltb, ne-eqb}
 use Rattle.laws.proofs.Cases.{both-false, never, split-eq, within-high, within-low, within-yes}
-use Rattle.rows.specs.Rows.{Row, andThen, listCheck, listRows, recordCheck, refusalAt, rowCheck, rowsCheck, rowsOf, wordRow}
+use Rattle.rows.specs.Rows.{Row, andThen, listCheck, listRows, recordCheck, rowCheck, rowsCheck, rowsOf, wordRow}
 use Rattle.rows.specs.declared.Checked.{Checked}
 use Rattle.rows.specs.declared.Checked.the-variants.{Faulty, Good}
+use Rattle.token.specs.Reads.{pointRefusal}
 use Rattle.token.specs.declared.read.Refusal.{Refusal}
 
 -- the rows from the place `at` on
@@ -76,7 +77,7 @@ module _ (row : List ℕ → Row) (size : ℕ) (s : List ℕ) (at n last : ℕ) 
     }
 
 -- the length test before the walk
-pub list-refused : (l : List ℕ) → (length l % 3 ≡ 0 → ⊥) → Faulty (refusalAt 40 0) ≡ listCheck l
+pub list-refused : (l : List ℕ) → (length l % 3 ≡ 0 → ⊥) → Faulty (pointRefusal 40 0) ≡ listCheck l
 unfolding listCheck
 list-refused l h = rw (ne-eqb (length l % 3) 0 h)
 
@@ -104,20 +105,20 @@ module _ (s : List ℕ) (p n last : ℕ) where
 
 -- a record by the tests of the code
 module _ (n last kind start end : ℕ) where
-  pub record-low : kind < 1 → Faulty (refusalAt 42 n) ≡ recordCheck n last kind start end
+  pub record-low : kind < 1 → Faulty (pointRefusal 42 n) ≡ recordCheck n last kind start end
   unfolding recordCheck
   record-low h = rw (within-low 1 66 kind h)
 
-  pub record-high : 66 < kind → Faulty (refusalAt 42 n) ≡ recordCheck n last kind start end
+  pub record-high : 66 < kind → Faulty (pointRefusal 42 n) ≡ recordCheck n last kind start end
   unfolding recordCheck
   record-high h = rw (within-high 1 66 kind h)
 
   module _ (l : 1 ≤ kind) (h : kind ≤ 66) where
-    pub record-gap : (start ≡ last → ⊥) → Faulty (refusalAt 43 n) ≡ recordCheck n last kind start end
+    pub record-gap : (start ≡ last → ⊥) → Faulty (pointRefusal 43 n) ≡ recordCheck n last kind start end
     unfolding recordCheck
     record-gap g = rw (within-yes 1 66 kind l h, ne-eqb start last g)
 
-    pub record-empty : end ≤ start → Faulty (refusalAt 43 n) ≡ recordCheck n last kind start end
+    pub record-empty : end ≤ start → Faulty (pointRefusal 43 n) ≡ recordCheck n last kind start end
     unfolding recordCheck
     record-empty g = rw (within-yes 1 66 kind l h, le-ltb start end g, both-false)
 

@@ -9,12 +9,7 @@ use Rattle.rows.specs.declared.Checked.{Checked}
 use Rattle.rows.specs.declared.Checked.the-variants.{Faulty, Good}
 use Rattle.rows.specs.declared.Stored.{Stored}
 use Rattle.rows.specs.declared.Stored.the-variants.{Done, Refused}
-use Rattle.token.specs.Reads.{pointOf}
-use Rattle.token.specs.declared.read.Refusal.{Refusal}
-
--- a refusal that names the record n
-abbrev pub refusalAt : ℕ → ℕ → Refusal
-refusalAt number n = record { number = number; span = pointOf n; reached = n }
+use Rattle.token.specs.Reads.{pointRefusal}
 
 -- one token, as it stands in a token list or in a stored record
 pub record Row : Type 0 where
@@ -39,12 +34,12 @@ listRows l = rowsOf wordRow 3 (length l / 3) l
 unfoldable pub recordCheck : ℕ → ℕ → ℕ → ℕ → ℕ → Checked
 recordCheck n last kind start end =
     pick (within 1 66 kind)
-    (pick (both (eqb start last) (ltb start end)) Good (Faulty (refusalAt 43 n)))
-    (Faulty (refusalAt 42 n))
+    (pick (both (eqb start last) (ltb start end)) Good (Faulty (pointRefusal 43 n)))
+    (Faulty (pointRefusal 42 n))
 
 -- 41, before these: no mark
 abbrev pub rowCheck : ℕ → ℕ → Row → Checked
-rowCheck n last r = pick (r .marked) (recordCheck n last (r .kind) (r .start) (r .end)) (Faulty (refusalAt 41 n))
+rowCheck n last r = pick (r .marked) (recordCheck n last (r .kind) (r .start) (r .end)) (Faulty (pointRefusal 41 n))
 
 abbrev pub andThen : Checked → Checked → Checked
 andThen Good next = next
@@ -57,11 +52,11 @@ rowsCheck n last (r ∷ rs) = andThen (rowCheck n last r) (rowsCheck (n + 1) (r 
 
 -- 40, first: a length that is no whole number of rows. The first row starts at 0
 unfoldable pub listCheck : List ℕ → Checked
-listCheck l = pick (eqb (length l % 3) 0) (rowsCheck 0 0 (listRows l)) (Faulty (refusalAt 40 0))
+listCheck l = pick (eqb (length l % 3) 0) (rowsCheck 0 0 (listRows l)) (Faulty (pointRefusal 40 0))
 
 -- 3, last: what is to be written does not fit
 abbrev pub storedIn : ℕ → Checked → List ℕ → Stored
-storedIn room Good out = pick (leb (length out) room) (Done (length out)) (Refused (refusalAt 3 0))
+storedIn room Good out = pick (leb (length out) room) (Done (length out)) (Refused (pointRefusal 3 0))
 storedIn room (Faulty r) out = Refused r
 
 -- a refusal writes nothing

@@ -5,8 +5,9 @@ use token::refusal::BAD_KIND;
 use token::refusal::BAD_LENGTH;
 use token::refusal::GAP;
 ghost use mathlib.Core.Path.{_≡_};
-ghost use Rattle.rows.specs.Rows.{listCheck, recordCheck, refusalAt};
+ghost use Rattle.rows.specs.Rows.{listCheck, recordCheck};
 ghost use Rattle.rows.specs.declared.Checked.the-variants.{Faulty};
+ghost use Rattle.token.specs.Reads.{pointRefusal};
 
 pub enum Checked {
     Good,
@@ -21,7 +22,7 @@ pub enum Stored {
 
 // A refusal that names the record n.
 pub fn refusal_at(number: u32, n: usize) -> Refusal
-    ensures { λ r. ⌜ r ≡ refusalAt number n ⌝ }
+    ensures { λ r. ⌜ r ≡ pointRefusal number n ⌝ }
 {
     Refusal {
         number,
@@ -31,7 +32,7 @@ pub fn refusal_at(number: u32, n: usize) -> Refusal
 }
 
 pub fn faulty(number: u32, n: usize) -> Checked
-    ensures { λ r. ⌜ r ≡ Faulty (refusalAt number n) ⌝ }
+    ensures { λ r. ⌜ r ≡ Faulty (pointRefusal number n) ⌝ }
 {
     let refusal = refusal_at(number, n);
     Checked::Faulty { refusal }

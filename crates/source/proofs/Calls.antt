@@ -3,10 +3,9 @@ use Prim.Native.Nat.{ℕ}
 use mathlib.Core.Path.{_≡_}
 use mathlib.Core.List.{List}
 use denote.Ref.{RefT}
-use Rattle.laws.proofs.Determined.{determined}
-use Rattle.source.specs.Reader.{movedOf, newOf, nextOf, peek2Of, peekOf, posOf, stepAt}
+use Rattle.laws.proofs.Determined.{determined, determined-both}
+use Rattle.source.specs.Reader.{movedOf, newOf, nextOf, peek2Of, peekOf, posOf}
 use Rattle.source.specs.declared.Source.{Source}
-use Rattle.source.specs.declared.Step.{Step}
 use Rattle.text.specs.declared.utf8.Scalar.{Scalar}
 
 pub new-determined : (s : RefT (List ℕ)) (r q : Source) → r ≡ newOf s → q ≡ newOf s → r ≡ q
@@ -23,7 +22,4 @@ module _ (it : Source) where
   peek2-determined r q h k = determined r q h k
 
   pub next-determined : (r q : Scalar) (v w : Source) → (v ≡ movedOf it) × (r ≡ nextOf it) → (w ≡ movedOf it) × (q ≡ nextOf it) → (v ≡ w) × (r ≡ q)
-  next-determined r q v w h k = (determined v w (h .0) (k .0), determined r q (h .1) (k .1))
-
-pub next-from-determined : (s : List ℕ) (at : ℕ) (r q : Step) → r ≡ stepAt s at → q ≡ stepAt s at → r ≡ q
-next-from-determined s at r q h k = determined r q h k
+  next-determined r q v w h k = determined-both v w r q h k

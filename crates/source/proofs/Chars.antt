@@ -1,7 +1,7 @@
 -- The reader goes over its scalars as the Rust's SourceIter goes over `chars()` from its cursor on: peek is the first of them, peek2 is peek after next,
 -- next moves by the scalar's own bytes, and at the end every call answers none and the reader stays. Assumes nothing.
 use Prim.Native.Nat.{ℕ, _+_}
-use mathlib.Core.Path.{_≡_, refl, sym, ap, _∙_}
+use mathlib.Core.Path.{_≡_, sym, ap, _∙_}
 use mathlib.Core.List.{List, [], _∷_}
 use Rattle.source.specs.Reader.{charsOf, movedOf, nextOf, peek2Of, peekOf, placeAfter}
 use Rattle.source.specs.declared.Source.{Source}
@@ -21,9 +21,6 @@ module _ (it : Source) where
     pub first-char : peekOf it ≡ One v (it .at + width v)
     unfolding scalarAt headAt
     first-char = ap (λ (l : List ℕ). headAt l (it .at)) p
-
-    pub next-is-peek : nextOf it ≡ peekOf it
-    next-is-peek = refl
 
     pub moves-by-width : movedOf it .at ≡ it .at + width v
     moves-by-width = ap (λ (x : Scalar). placeAfter x (it .at)) first-char

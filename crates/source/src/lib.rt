@@ -9,9 +9,9 @@ pub struct Source<'a> {
 }
 
 // A scalar, or none, and the place after it.
-pub struct Step {
-    pub scalar: Scalar,
-    pub at: usize,
+struct Step {
+    scalar: Scalar,
+    at: usize,
 }
 
 fn step_at(s: &[u8], at: usize) -> Step
@@ -56,14 +56,4 @@ impl<'a> Source<'a> {
         self.at = step.at;
         step.scalar
     }
-}
-
-// A reader is made at a place and moved on: who calls this has plain parameters, and needs no walk.
-pub fn next_from(s: &[u8], at: usize) -> Step
-    ensures { λ r. ⌜ r ≡ stepAt (now (s .entry)) at ⌝ }
-{
-    let mut it = Source { src: s, at };
-    let scalar = it.next();
-    let then = it.at;
-    Step { scalar, at: then }
 }

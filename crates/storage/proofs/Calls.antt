@@ -4,14 +4,14 @@ use mathlib.Core.Path.{_≡_}
 use mathlib.Core.List.{List}
 use lib.Seq.{sets}
 use lib.ListN.{length}
-use Rattle.laws.proofs.Determined.{determined}
+use Rattle.laws.proofs.Determined.{determined-both}
 use Rattle.rows.specs.declared.Stored.{Stored}
 use Rattle.stored_reader.specs.Reader.{readBy, readOf}
 use Rattle.stored_writer.specs.Writer.{writeOf, writtenBy}
 
 module _ (l out : List ℕ) (r q : Stored) (v w : List ℕ) where
   pub write-determined : (r ≡ writeOf l (length out)) × (v ≡ sets out 0 (writtenBy l (length out))) → (q ≡ writeOf l (length out)) × (w ≡ sets out 0 (writtenBy l (length out))) → (r ≡ q) × (v ≡ w)
-  write-determined h k = (determined r q (h .0) (k .0), determined v w (h .1) (k .1))
+  write-determined h k = determined-both r q v w h k
 
   pub read-determined : (r ≡ readOf l (length out)) × (v ≡ sets out 0 (readBy l (length out))) → (q ≡ readOf l (length out)) × (w ≡ sets out 0 (readBy l (length out))) → (r ≡ q) × (v ≡ w)
-  read-determined h k = (determined r q (h .0) (k .0), determined v w (h .1) (k .1))
+  read-determined h k = determined-both r q v w h k

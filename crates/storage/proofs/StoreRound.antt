@@ -12,7 +12,7 @@ use Rattle.laws.proofs.Cases.{both-inv, never, within-inv}
 use Rattle.laws.specs.Bools.{both, pick, same, within}
 use Rattle.rows.proofs.Puts.{stored-done}
 use Rattle.rows.proofs.Rows.{list-checked, list-sound}
-use Rattle.rows.specs.Rows.{Row, andThen, listCheck, listRows, recordCheck, refusalAt, rowCheck, rowsCheck, rowsOf, storedIn, unlessRefused, wordRow}
+use Rattle.rows.specs.Rows.{Row, andThen, listCheck, listRows, recordCheck, rowCheck, rowsCheck, rowsOf, storedIn, unlessRefused, wordRow}
 use Rattle.rows.specs.declared.Checked.{Checked}
 use Rattle.rows.specs.declared.Checked.the-variants.{Faulty, Good}
 use Rattle.rows.specs.declared.Stored.{Stored}
@@ -22,6 +22,7 @@ use Rattle.stored_reader.proofs.Records.{bytes-checked, bytes-sound, length-tok
 use Rattle.stored_reader.specs.Reader.{byteRow, bytesCheck, listWords, readBy, readOf, storedRows, tokenWords, u32Of}
 use Rattle.stored_writer.proofs.Records.{length-records, recordIn}
 use Rattle.stored_writer.specs.Writer.{recordsOf, u32Bytes, writeOf, writtenBy}
+use Rattle.token.specs.Reads.{pointRefusal}
 use Rattle.token.specs.declared.read.Refusal.{Refusal}
 
 -- a word and its bytes
@@ -62,13 +63,13 @@ unfolding rowsCheck
 rows-inv n last r rs h = and-inv (rowCheck n last r) (rowsCheck (n + 1) (r .end) rs) h
 
 pub row-marked : (n last : ℕ) (r : Row) → rowCheck n last r ≡ Good → r .marked ≡ true
-row-marked n last r h = pick-inv (r .marked) (recordCheck n last (r .kind) (r .start) (r .end)) (refusalAt 41 n) h .0
+row-marked n last r h = pick-inv (r .marked) (recordCheck n last (r .kind) (r .start) (r .end)) (pointRefusal 41 n) h .0
 
 pub row-kind : (n last : ℕ) (r : Row) → rowCheck n last r ≡ Good → r .kind ≤ 66
 unfolding recordCheck
 row-kind n last r h =
-    let c = pick-inv (r .marked) (recordCheck n last (r .kind) (r .start) (r .end)) (refusalAt 41 n) h .1 in
-    within-inv 1 66 (r .kind) (pick-inv (within 1 66 (r .kind)) (pick (both (eqb (r .start) last) (ltb (r .start) (r .end))) Good (Faulty (refusalAt 43 n))) (refusalAt 42 n) c .0) .1
+    let c = pick-inv (r .marked) (recordCheck n last (r .kind) (r .start) (r .end)) (pointRefusal 41 n) h .1 in
+    within-inv 1 66 (r .kind) (pick-inv (within 1 66 (r .kind)) (pick (both (eqb (r .start) last) (ltb (r .start) (r .end))) Good (Faulty (pointRefusal 43 n))) (pointRefusal 42 n) c .0) .1
 
 row-same : (r q : Row) → r .marked ≡ q .marked → r .kind ≡ q .kind → r .start ≡ q .start → r .end ≡ q .end → r ≡ q
 row-same r q m k s e = λ i. record { marked = m i; kind = k i; start = s i; end = e i }

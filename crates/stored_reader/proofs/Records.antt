@@ -9,15 +9,16 @@ use borrow.Author.Tests.{eq-eqb, ne-eqb}
 use Rattle.laws.proofs.Cases.{both-false, never, split-eq}
 use Rattle.rows.proofs.Puts.{Layout}
 use Rattle.rows.proofs.Rows.{Left, at-drop, first-drop}
-use Rattle.rows.specs.Rows.{Row, recordCheck, refusalAt, rowCheck, rowsCheck, rowsOf}
+use Rattle.rows.specs.Rows.{Row, recordCheck, rowCheck, rowsCheck, rowsOf}
 use Rattle.rows.specs.declared.Checked.the-variants.{Faulty, Good}
 use Rattle.stored_reader.specs.Reader.{byteRow, bytesCheck, listWords, storedRows, tokenWords, u32At}
+use Rattle.token.specs.Reads.{pointRefusal}
 
 pub left-11 : (n at : ℕ) → at < n → (n - at) % 11 ≡ 0 → Left 11 n at
 left-11 n at h w = record { room = omega arith; more = omega arith; whole = omega arith }
 
 -- the length test before the walk
-pub bytes-refused : (s : List ℕ) → (length s % 11 ≡ 0 → ⊥) → Faulty (refusalAt 40 0) ≡ bytesCheck s
+pub bytes-refused : (s : List ℕ) → (length s % 11 ≡ 0 → ⊥) → Faulty (pointRefusal 40 0) ≡ bytesCheck s
 unfolding bytesCheck
 bytes-refused s h = rw (ne-eqb (length s % 11) 0 h)
 
@@ -38,10 +39,10 @@ word-drop s p k =
     rw (at-drop s p k, at-drop s p (k + 1), at-drop s p (k + 2), at-drop s p (k + 3), e₁, e₂, e₃)
 
 module _ (s : List ℕ) (p n last : ℕ) where
-  pub bytes-unmarked : (getD s p 0 ≡ 0x54 → ⊥) → Faulty (refusalAt 41 n) ≡ rowCheck n last (byteRow (drop p s))
+  pub bytes-unmarked : (getD s p 0 ≡ 0x54 → ⊥) → Faulty (pointRefusal 41 n) ≡ rowCheck n last (byteRow (drop p s))
   bytes-unmarked h = rw (first-drop s p, ne-eqb (getD s p 0) 0x54 h)
 
-  pub bytes-unmarked-2 : (getD s (p + 1) 0 ≡ 0x4b → ⊥) → Faulty (refusalAt 41 n) ≡ rowCheck n last (byteRow (drop p s))
+  pub bytes-unmarked-2 : (getD s (p + 1) 0 ≡ 0x4b → ⊥) → Faulty (pointRefusal 41 n) ≡ rowCheck n last (byteRow (drop p s))
   bytes-unmarked-2 h = rw (at-drop s p 1, ne-eqb (getD s (p + 1) 0) 0x4b h, both-false)
 
   pub bytes-row : (k a b : ℕ) → k ≡ getD s (p + 2) 0 → a ≡ u32At s (p + 3) → b ≡ u32At s (p + 7) → getD s p 0 ≡ 0x54 → getD s (p + 1) 0 ≡ 0x4b

@@ -4,10 +4,11 @@ use mathlib.Core.List.{List, [], _∷_, _++_}
 use lib.Dec.{eqb}
 use lib.ListN.{getD, length}
 use Rattle.laws.specs.Bools.{both, pick}
-use Rattle.rows.specs.Rows.{Row, refusalAt, rowsCheck, rowsOf, storedIn, unlessRefused}
+use Rattle.rows.specs.Rows.{Row, rowsCheck, rowsOf, storedIn, unlessRefused}
 use Rattle.rows.specs.declared.Checked.{Checked}
 use Rattle.rows.specs.declared.Checked.the-variants.{Faulty}
 use Rattle.rows.specs.declared.Stored.{Stored}
+use Rattle.token.specs.Reads.{pointRefusal}
 
 -- four bytes as a word, the lowest first
 abbrev pub u32Of : ℕ → ℕ → ℕ → ℕ → ℕ
@@ -34,7 +35,7 @@ listWords (r ∷ rs) = tokenWords r ++ listWords rs
 
 -- 40, first: a length that is no whole number of records. The first record starts at 0
 unfoldable pub bytesCheck : List ℕ → Checked
-bytesCheck s = pick (eqb (length s % 11) 0) (rowsCheck 0 0 (storedRows s)) (Faulty (refusalAt 40 0))
+bytesCheck s = pick (eqb (length s % 11) 0) (rowsCheck 0 0 (storedRows s)) (Faulty (pointRefusal 40 0))
 
 -- the reader's answer to bytes, and the words that it writes
 unfoldable pub readOf : List ℕ → ℕ → Stored

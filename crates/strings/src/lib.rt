@@ -2,6 +2,11 @@
 use text::Scalar;
 use token::Kind;
 use token::Read;
+use token::refusal::EXPECTED_BYTE_CLOSE;
+use token::refusal::EXPECTED_ESCAPE;
+use token::refusal::UNTERMINATED_BYTE_LIT;
+use token::refusal::UNTERMINATED_BYTE_STR_LIT;
+use token::refusal::UNTERMINATED_STR_LIT;
 ghost use mathlib.Core.Path.{_≡_};
 ghost use Rattle.readers.specs.Readers.{byteOf, strKind, strNumber, strOf};
 ghost use Rattle.readers.specs.Rules.{base};
@@ -15,12 +20,12 @@ pub fn next_lit_byte(s: &[u8], start: usize, at: usize) -> Read
         next: first,
     } = text::scalar_at(s, at)
     else {
-        return token::refused(14, start, at, at);
+        return token::refused(EXPECTED_BYTE_CLOSE, start, at, at);
     };
     let mut p = first;
     loop {
         let Scalar::One { value, next } = text::scalar_at(s, p) else {
-            return token::refused(14, start, p, p);
+            return token::refused(EXPECTED_BYTE_CLOSE, start, p, p);
         };
         if value == 92 {
             let Scalar::One {
@@ -28,7 +33,7 @@ pub fn next_lit_byte(s: &[u8], start: usize, at: usize) -> Read
                 next: after,
             } = text::scalar_at(s, next)
             else {
-                return token::refused(10, p, next, next);
+                return token::refused(EXPECTED_ESCAPE, p, next, next);
             };
             p = after;
         } else {
@@ -36,7 +41,7 @@ pub fn next_lit_byte(s: &[u8], start: usize, at: usize) -> Read
                 return token::got(Kind::Byte, start, next);
             }
             if classes::is_control(value) {
-                return token::refused(15, start, next, next);
+                return token::refused(UNTERMINATED_BYTE_LIT, start, next, next);
             }
             p = next;
         }
@@ -57,7 +62,11 @@ fn str_kind(bytes: bool, escaped: bool) -> Kind
 fn str_number(bytes: bool) -> u32
     ensures { λ r. ⌜ r ≡ strNumber bytes ⌝ }
 {
-    if bytes { 17 } else { 16 }
+    if bytes {
+        UNTERMINATED_BYTE_STR_LIT
+    } else {
+        UNTERMINATED_STR_LIT
+    }
 }
 
 pub fn next_str(s: &[u8], bytes: bool, start: usize, at: usize) -> Read
@@ -78,7 +87,7 @@ pub fn next_str(s: &[u8], bytes: bool, start: usize, at: usize) -> Read
                 next: after,
             } = text::scalar_at(s, next)
             else {
-                return token::refused(10, p, next, next);
+                return token::refused(EXPECTED_ESCAPE, p, next, next);
             };
             escaped = true;
             p = after;

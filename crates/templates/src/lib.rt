@@ -3,6 +3,7 @@ use choice::read_first;
 use text::Scalar;
 use token::Kind;
 use token::Read;
+use token::refusal::TOO_DEEP;
 ghost use mathlib.Core.Path.{_≡_};
 ghost use Rattle.readers.specs.Rules.{base};
 ghost use Rattle.templates.specs.Body.{templateOf, tokenOf};
@@ -19,7 +20,7 @@ pub fn read_token(s: &[u8], at: usize, depth: u32) -> Read
         return read_first(s, value, at, next);
     }
     if depth == 0 {
-        return token::refused(19, at, next, next);
+        return token::refused(TOO_DEEP, at, next, next);
     }
     read_template(s, at, next, depth - 1)
 }
@@ -51,8 +52,8 @@ fn read_template(s: &[u8], start: usize, at: usize, depth: u32) -> Read
                     p = token.span.end;
                 }
                 Read::Refused { refusal } => {
-                    if refusal.number == 19 {
-                        return token::refused(19, start, refusal.span.end, refusal.reached);
+                    if refusal.number == TOO_DEEP {
+                        return token::refused(TOO_DEEP, start, refusal.span.end, refusal.reached);
                     }
                     p = refusal.reached;
                 }

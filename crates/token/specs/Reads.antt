@@ -1,9 +1,9 @@
 -- Document 01, "How one token is read" and "Refusal numbers and places": what a token reader answers.
 use Prim.Native.Nat.{ℕ}
 use Rattle.token.specs.declared.kind.Kind.{Kind}
-use Rattle.token.specs.declared.kind.Kind.the-variants.{Eof}
 use Rattle.token.specs.declared.read.Read.{Read}
 use Rattle.token.specs.declared.read.Read.the-variants.{Got, Refused}
+use Rattle.token.specs.declared.read.Refusal.{Refusal}
 use Rattle.token.specs.declared.read.Span.{Span}
 
 -- a span in bytes, from start to before end
@@ -18,13 +18,13 @@ pointOf p = spanOf p p
 abbrev pub gotOf : Kind → ℕ → ℕ → Read
 gotOf kind start end = Got (record { kind = kind; span = spanOf start end })
 
--- where the source has ended, reading answers 67, a point
-abbrev pub eofOf : ℕ → Read
-eofOf p = Got (record { kind = Eof; span = pointOf p })
-
 -- a refusal has a number, a span and the place reached
 abbrev pub refusedOf : ℕ → ℕ → ℕ → ℕ → Read
 refusedOf number start end reached = Refused (record { number = number; span = spanOf start end; reached = reached })
+
+-- one of a place or of a record alone: a point, and nothing reached past it
+abbrev pub pointRefusal : ℕ → ℕ → Refusal
+pointRefusal number p = record { number = number; span = pointOf p; reached = p }
 
 -- the place that reading reached: a token's end, or a refusal's own
 abbrev pub reachedOf : Read → ℕ
