@@ -1,5 +1,5 @@
 -- Scalars encoded and decoded again are the same scalars; bytes decoded and encoded again are the same bytes, as far as they are well formed. Assumes nothing.
-use Prim.Native.Nat.{ℕ, zero, suc, _+_, _/_, _≤_}
+use Prim.Native.Nat.{ℕ, zero, suc, _+_, _-_, _/_, _≤_}
 use mathlib.Core.Path.{_≡_, refl, sym, ap, _∙_}
 use mathlib.Core.List.{List, [], _∷_, _++_, append-assoc, append-nil}
 use mathlib.Core.Bool.{true}
@@ -110,14 +110,19 @@ whole-encode s h =
 
 module _ (s : List ℕ) (at v n : ℕ) (t : Step s at v n) where
   -- the sequence at the place of a step
-  step-sequence : (e : ℕ) × (first (drop at s) ≡ seq v e)
+  step-sequence : (e : ℕ) × (first (drop at s) ≡ seq v e) × (n - at ≡ suc e)
   step-sequence =
       by-first s at (λ q. never (let z = end-first s at q in let y = t .here in cc))
       (λ v′ e q.
       let u = step-first s at v′ e q .here in
       let y = t .here in
       let p : v′ ≡ v = cc in
-      (e, q ∙ ap (λ (x : ℕ). seq x e) p))
+      let h = q ∙ ap (λ (x : ℕ). seq x e) p in
+      (e, h, omega (arith, first-whole (drop at s) v e h .0)))
 
   pub step-is-scalar : isScalar v ≡ true
   step-is-scalar = let q = step-sequence in first-scalar (drop at s) v (q .0) (q .1)
+
+  -- the bytes of a scalar of a source are those that stand at its place
+  pub step-bytes : encodeOf v ≡ take (n - at) (drop at s)
+  step-bytes = let q = step-sequence in first-bytes (drop at s) v (q .0) (q .1) ∙ ap (λ (k : ℕ). take k (drop at s)) (sym (q .2))

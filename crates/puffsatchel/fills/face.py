@@ -13,8 +13,3 @@ def lent(fn, of, call):
 
 fill('puffsatchel_list', {'returns': lent('of-listed', 'ofListed', 'list')})
 fill('puffsatchel_outline', {'returns': lent('of-outlined', 'ofOutlined', 'outline')})
-fill('puffsatchel_store', {'returns': lent('of-stored', 'ofStored', 'write')})
-fill('puffsatchel_load', {'returns': lent('of-stored', 'ofStored', 'read')})
-fill('puffsatchel_unescape', {
-    'returns': 'by-none _ _ _ _ _ _ refl (sym (@enum-told .given .1) ∙ @form-of .ensures) (tells _ _ _ _ (@tell .ensures) (@point .ensures))',
-    'returns-2': 'by-form _ _ (@Start .args .escaped .now) (@Start .args .out .now) _ _ _ (sym (@known .given .1) ∙ @form-of .ensures) (%s) (@unescape .ensures .1)' % told('of-unescaped', 'ofUnescaped', 'unescape', '.ensures .0', 'tell2')})

@@ -1,14 +1,10 @@
-// The calls for C and Rust (include/puffsatchel.h): the result is a refusal's number, 0 where there is none, and the rest of the answer goes to
+// The calls for C and Rust that read a source (include/puffsatchel.h): the result is a refusal's number, 0 where there is none, and the rest of the answer goes to
 // five lent words. Each equals the definition of the call below it, on every input; none keeps or allocates memory.
-use answers::Named;
 use answers::tell;
 ghost use mathlib.Core.Path.{_≡_};
-ghost use Rattle.puffsatchel.specs.Calls.{listLeaves, listTells, loadLeaves, loadTells, nextTells, outlineLeaves, outlineTells, readTells, storeLeaves, storeTells, testTells, unescapeLeaves, unescapeTells, version};
+ghost use Rattle.puffsatchel.specs.Calls.{listLeaves, listTells, nextTells, outlineLeaves, outlineTells, readTells, testTells, version};
 
 const VERSION: u32 = 2;
-
-// A number that names none of the five forms. No document uses it.
-const NO_SUCH_FORM: u32 = 5;
 
 #[no_mangle]
 pub extern "C" fn puffsatchel_version() -> u32
@@ -57,44 +53,4 @@ pub extern "C" fn puffsatchel_outline(source: &[u8], out: &mut [u8], answer: &mu
 {
     let outlined = outline::outline(source, out);
     tell(answers::of_outlined(outlined), answer)
-}
-
-#[no_mangle]
-pub extern "C" fn puffsatchel_unescape(
-    escaped: &[u8],
-    form: u32,
-    out: &mut [u8],
-    answer: &mut [usize; 5],
-) -> u32
-    ensures { λ r. ⌜ (r ≡ unescapeTells form (now (escaped .entry)) (now (out .entry)) .number)
-        × (now (out .exit) ≡ unescapeLeaves form (now (escaped .entry)) (now (out .entry)))
-        × (now (answer .exit) ≡ unescapeTells form (now (escaped .entry)) (now (out .entry)) .words) ⌝ }
-{
-    let Named::OneForm { form: known } = answers::form_of(form) else {
-        return tell(answers::point(NO_SUCH_FORM, 0), answer);
-    };
-    let unescaped = unescape::unescape(escaped, known, out);
-    tell(answers::of_unescaped(unescaped), answer)
-}
-
-// A token list, three words a token, as stored records.
-#[no_mangle]
-pub extern "C" fn puffsatchel_store(list: &[u32], out: &mut [u8], answer: &mut [usize; 5]) -> u32
-    ensures { λ r. ⌜ (r ≡ storeTells (now (list .entry)) (now (out .entry)) .number)
-        × (now (out .exit) ≡ storeLeaves (now (list .entry)) (now (out .entry)))
-        × (now (answer .exit) ≡ storeTells (now (list .entry)) (now (out .entry)) .words) ⌝ }
-{
-    let written = storage::write(list, out);
-    tell(answers::of_stored(written), answer)
-}
-
-// Stored records as a token list.
-#[no_mangle]
-pub extern "C" fn puffsatchel_load(bytes: &[u8], out: &mut [u32], answer: &mut [usize; 5]) -> u32
-    ensures { λ r. ⌜ (r ≡ loadTells (now (bytes .entry)) (now (out .entry)) .number)
-        × (now (out .exit) ≡ loadLeaves (now (bytes .entry)) (now (out .entry)))
-        × (now (answer .exit) ≡ loadTells (now (bytes .entry)) (now (out .entry)) .words) ⌝ }
-{
-    let loaded = storage::read(bytes, out);
-    tell(answers::of_stored(loaded), answer)
 }

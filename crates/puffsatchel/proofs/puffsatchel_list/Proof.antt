@@ -1,7 +1,7 @@
 use mathlib.Core.Path.{ap, _∙_}
 use borrow.Author.Needs.{needs}
 use Rattle.answers.specs.Told.{ofListed}
-use Rattle.puffsatchel.proofs.Tells.{tells}
+use Rattle.answers.proofs.Promises.{tells}
 use Rattle.puffsatchel.proofs.puffsatchel_list.Statement.{statement}
 use Rattle.puffsatchel.proofs.puffsatchel_list.Tie as tie
 

@@ -1,9 +1,10 @@
 use mathlib.Core.Path.{refl, sym, ap, _∙_}
 use borrow.Author.Needs.{needs}
 use Rattle.answers.specs.Told.{ofUnescaped}
-use Rattle.puffsatchel.proofs.Tells.{by-form, by-none, tells}
-use Rattle.puffsatchel.proofs.puffsatchel_unescape.Statement.{statement}
-use Rattle.puffsatchel.proofs.puffsatchel_unescape.Tie as tie
+use Rattle.answers.proofs.Promises.{tells}
+use Rattle.puffsatchel_bytes.proofs.Tells.{by-form, by-none}
+use Rattle.puffsatchel_bytes.proofs.puffsatchel_unescape.Statement.{statement}
+use Rattle.puffsatchel_bytes.proofs.puffsatchel_unescape.Tie as tie
 
 form-of-requires : tie.Need-form-of-requires
 form-of-requires c κs = search needs
@@ -36,7 +37,7 @@ same-length : tie.Need-same-length
 same-length c = search needs
 
 returns-2 : tie.Need-returns-2
-returns-2 c = by-form _ _ (c .before .before .before .before .before .before .before .before .before .before .before .before .before .args .escaped .now) (c .before .before .before .before .before .before .before .before .before .before .before .before .before .args .out .now) _ _ _ (sym (c .before .before .before .before .before .before .before .before .known .given .1) ∙ c .before .before .before .before .before .before .before .before .before .before .form-of .ensures) (tells _ _ _ _ (c .tell2 .ensures) (c .before .before .of-unescaped .ensures ∙ ap ofUnescaped (c .before .before .before .before .before .unescape .ensures .0))) (c .before .before .before .before .before .unescape .ensures .1)
+returns-2 c = by-form _ _ (c .before .before .before .before .before .before .before .before .before .before .before .before .before .args .body .now) (c .before .before .before .before .before .before .before .before .before .before .before .before .before .args .out .now) _ _ _ (sym (c .before .before .before .before .before .before .before .before .known .given .1) ∙ c .before .before .before .before .before .before .before .before .before .before .form-of .ensures) (tells _ _ _ _ (c .tell2 .ensures) (c .before .before .of-unescaped .ensures ∙ ap ofUnescaped (c .before .before .before .before .before .unescape .ensures .0))) (c .before .before .before .before .before .unescape .ensures .1)
 
 pub puffsatchel-unescape-spec : {M : Type 1} → statement M
 puffsatchel-unescape-spec =

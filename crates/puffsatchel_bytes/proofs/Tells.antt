@@ -1,19 +1,15 @@
--- What is told of an answer is told of its definition. Assumes nothing.
+-- What a body's call promises, by the form that its number names. Assumes nothing.
 use Prim.Native.Nat.{ℕ}
-use mathlib.Core.Path.{_≡_, ap, _∙_, subst}
+use mathlib.Core.Path.{_≡_, subst}
 use mathlib.Core.List.{List}
 use lib.Seq.{sets}
 use lib.ListN.{length}
 use Rattle.answers.specs.Told.{formOf, formed, ofUnescaped, toldAs}
-use Rattle.answers.specs.declared.Told.{Told}
 use Rattle.answers.specs.declared.form.Named.{Named}
 use Rattle.answers.specs.declared.form.Named.the-variants.{NoForm, OneForm}
 use Rattle.laws.specs.Bools.{same}
 use Rattle.unescape.specs.Bodies.{unescapeOf}
 use Rattle.items.specs.declared.Form.{Form}
-
-pub tells : (r : ℕ) (l : List ℕ) (t u : Told) → (r ≡ t .number) × (l ≡ t .words) → t ≡ u → (r ≡ u .number) × (l ≡ u .words)
-tells r l t u h e = (h .0 ∙ ap (λ (x : Told). x .number) e, h .1 ∙ ap (λ (x : Told). x .words) e)
 
 module _ (r n : ℕ) (s o w l : List ℕ) where
   -- what a body's call promises, at the form that its number names
