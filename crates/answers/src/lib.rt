@@ -11,6 +11,9 @@ use sound::Tested;
 use storage::Stored;
 use token::Read;
 use token::Refusal;
+use token::refusal::ILL_FORMED;
+use token::refusal::NO_PLACE;
+use token::refusal::TOO_LONG;
 use unescape::Unescaped;
 
 // The number of a refusal, 0 where there is none; and value, count, start, end and the place reached.
@@ -59,9 +62,9 @@ pub fn of_tested(answer: Tested) -> Told
 {
     match answer {
         Tested::Sound => point(0, 0),
-        Tested::TooLong => point(1, 0),
-        Tested::IllFormed { at } => point(2, at),
-        Tested::Misplaced { at } => point(4, at),
+        Tested::TooLong => point(TOO_LONG, 0),
+        Tested::IllFormed { at } => point(ILL_FORMED, at),
+        Tested::Misplaced { at } => point(NO_PLACE, at),
     }
 }
 

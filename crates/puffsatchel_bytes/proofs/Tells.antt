@@ -7,7 +7,6 @@ use lib.ListN.{length}
 use Rattle.answers.specs.Told.{formOf, formed, ofUnescaped, toldAs}
 use Rattle.answers.specs.declared.form.Named.{Named}
 use Rattle.answers.specs.declared.form.Named.the-variants.{NoForm, OneForm}
-use Rattle.laws.specs.Bools.{same}
 use Rattle.unescape.specs.Bodies.{unescapeOf}
 use Rattle.items.specs.declared.Form.{Form}
 
