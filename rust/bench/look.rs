@@ -1,7 +1,7 @@
 //! Scripts of lookahead calls as a parser makes them, and our side of running one.
 
 use crate::chance::Chance;
-use crate::measured::Answer;
+use crate::lent::{Ahead, Answer};
 
 /// By the codes of the oracle's README.
 const PEEK: u8 = 1;
@@ -18,36 +18,6 @@ const SEMICOLON: u8 = 31;
 
 /// A word, `(`, `,`, `.`, `=` and `{`.
 const ASKED_FOR: [u8; 6] = [6, 22, 26, 28, 33, 40];
-
-/// What puffsatchel.h calls a state.
-#[repr(C)]
-struct Ahead {
-    next: u32,
-    keep: u32,
-    held_at: usize,
-    held_len: usize,
-    wait_at: usize,
-    wait_len: usize,
-    held: [u32; 8],
-    counts: [u32; 8],
-    waiting: [u32; 256],
-}
-
-impl Ahead {
-    fn fresh(keep: bool) -> Self {
-        Self {
-            next: 0,
-            keep: u32::from(keep),
-            held_at: 0,
-            held_len: 0,
-            wait_at: 0,
-            wait_len: 0,
-            held: [0; 8],
-            counts: [0; 8],
-            waiting: [0; 256],
-        }
-    }
-}
 
 /// The list and the state were tested before: the list is our own, and the state is one that the calls left.
 const TESTED: u32 = 1;

@@ -10,6 +10,8 @@
 mod chance;
 mod escapes;
 mod inputs;
+#[path = "../puffsatchel/src/lent.rs"]
+mod lent;
 mod look;
 mod measured;
 

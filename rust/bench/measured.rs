@@ -4,18 +4,8 @@
 use std::hint::black_box;
 
 use crate::escapes;
+use crate::lent::Answer;
 use crate::look::Look;
-
-/// What puffsatchel.h calls an answer.
-#[repr(C)]
-#[derive(Default)]
-pub(crate) struct Answer {
-    pub(crate) value: usize,
-    pub(crate) count: usize,
-    pub(crate) start: usize,
-    pub(crate) end: usize,
-    pub(crate) reached: usize,
-}
 
 extern "C" {
     fn puffsatchel_list(

@@ -16,6 +16,9 @@ use crate::sound::sound;
 use crate::state::Nums;
 use crate::tell::done;
 use crate::tell::refuse;
+use token::refusal::FAULTY;
+use token::refusal::PAST_HELD;
+use token::refusal::STORE_SHORT;
 ghost use Prim.Native.Nat.{_+_, _*_, _≤_, _<_};
 ghost use mathlib.Core.Path.{_≡_};
 ghost use lib.Dec.{eqb};
@@ -46,7 +49,7 @@ pub fn bump_at(
     let front = front_of(nums, held, counts, list);
     let white = front.white;
     if out.len() / 3 <= white {
-        return refuse(nums, 33);
+        return refuse(nums, STORE_SHORT);
     }
     let words = front.words;
     let m = gathers_at(nums, held, counts, &mut *waiting, lacks(nums, 1), list);
@@ -74,7 +77,7 @@ pub fn flush_at(
     let front = front_of(nums, held, counts, list);
     let white = front.white;
     if out.len() / 3 < white {
-        return refuse(nums, 33);
+        return refuse(nums, STORE_SHORT);
     }
     let start = front.words.start;
     let m = gathers_at(
@@ -122,7 +125,7 @@ pub fn bump_if_at(
     let front = front_of(nums, held, counts, list);
     let count = wanted(front, kind);
     if out.len() / 3 < count {
-        return refuse(nums, 33);
+        return refuse(nums, STORE_SHORT);
     }
     let m = gathers_at(nums, held, counts, &mut *waiting, lacks(nums, 1), list);
     if count == 0 {
@@ -144,10 +147,10 @@ fn advance_refusal(
     ensures { λ r. ⌜ r ≡ advanceRefusal tested (now (list .entry)) n (stateOf nums (now (held .entry)) (now (counts .entry)) (now (waiting .entry))) ⌝ }
 {
     if !sound(nums, held, counts, waiting, tested, list) {
-        return 34;
+        return FAULTY;
     }
     if nums.held_len < n {
-        return 32;
+        return PAST_HELD;
     }
     0
 }
@@ -198,7 +201,7 @@ pub fn advance_at(
     }
     let count = counts_sum(counts, n, nums.held_at) + n;
     if out.len() / 3 < count {
-        return refuse(nums, 33);
+        return refuse(nums, STORE_SHORT);
     }
     let m = emit_held(nums, held, counts, waiting, n, list, out);
     done(m, count, 0, 0, 0)
@@ -219,7 +222,7 @@ fn array_refusal(
         return fill_refusal(nums, held, counts, waiting, tested, n - 1, list);
     }
     if !sound(nums, held, counts, waiting, tested, list) {
-        return 34;
+        return FAULTY;
     }
     0
 }
@@ -255,7 +258,7 @@ pub fn array_at(
         return refuse(nums, refusal);
     }
     if out.len() / 3 < n {
-        return refuse(nums, 33);
+        return refuse(nums, STORE_SHORT);
     }
     let m = gathers_at(nums, &mut *held, counts, waiting, lacks(nums, n), list);
     put_array(m, held, n, list, out);

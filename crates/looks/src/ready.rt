@@ -3,6 +3,9 @@ use crate::fill::fits_for;
 use crate::fill::gathers_at;
 use crate::sound::sound;
 use crate::state::Nums;
+use token::refusal::FAULTY;
+use token::refusal::TOO_FAR;
+use token::refusal::WAITING_FULL;
 ghost use Prim.Native.Nat.{_-_};
 ghost use mathlib.Core.Path.{_≡_};
 ghost use Rattle.looks.specs.Buffer.{stateOf};
@@ -37,16 +40,16 @@ pub(crate) fn fill_refusal(
     ensures { λ r. ⌜ r ≡ fillRefusal tested (now (list .entry)) n (stateOf nums (now (held .entry)) (now (counts .entry)) (now (waiting .entry))) ⌝ }
 {
     if !sound(nums, held, counts, waiting, tested, list) {
-        return 34;
+        return FAULTY;
     }
     if n < nums.held_len {
         return 0;
     }
     if 7 < n {
-        return 30;
+        return TOO_FAR;
     }
     if !fits_for(nums, lacks(nums, n + 1), list) {
-        return 31;
+        return WAITING_FULL;
     }
     0
 }

@@ -16,6 +16,9 @@ use crate::sound::sound;
 use crate::state::Nums;
 use crate::tell::done;
 use crate::tell::refuse;
+use token::refusal::FAULTY;
+use token::refusal::STORE_SHORT;
+use token::refusal::WAITING_FULL;
 ghost use Prim.Native.Nat.{_*_, _≤_};
 ghost use mathlib.Core.Path.{_≡_};
 ghost use lib.Dec.{ltb, eqb};
@@ -48,7 +51,7 @@ fn at_end(kind: u32) -> u32
     ensures { λ r. ⌜ r ≡ pick (eqb kind 67) 33 0 ⌝ }
 {
     if kind == 67 {
-        return 33;
+        return STORE_SHORT;
     }
     0
 }
@@ -64,7 +67,7 @@ fn plan_while(nums: Nums, held: &[u32], counts: &[u32], kind: u32, list: &[u32])
         let f = filled_nums(m, list);
         if 256 < f.wait_len {
             return Plan {
-                refusal: 31,
+                refusal: WAITING_FULL,
                 count: 0,
             };
         }
@@ -157,7 +160,7 @@ pub fn bump_while_at(
         × (now (out .exit) ≡ sets (now (out .entry)) 0 (bumpWhileBy tested (now (list .entry)) kind (length (now (out .entry))) (stateOf nums (now (held .entry)) (now (counts .entry)) (now (waiting .entry))) .written)) ⌝ }
 {
     if !sound(nums, held, counts, waiting, tested, list) {
-        return refuse(nums, 34);
+        return refuse(nums, FAULTY);
     }
     let p = plan_while(nums, held, counts, kind, list);
     if p.refusal != 0 {
@@ -165,7 +168,7 @@ pub fn bump_while_at(
     }
     let count = p.count;
     if out.len() / 3 < count {
-        return refuse(nums, 33);
+        return refuse(nums, STORE_SHORT);
     }
     let m = run_while(nums, held, counts, waiting, kind, list, out);
     done(m, count, is_some(count), 0, 0)

@@ -1,4 +1,4 @@
--- Each call of this half of the face: what it tells, and the lent memory that it leaves.
+-- Each call for bodies and stored lists: what it tells, and the lent memory that it leaves.
 use Prim.Native.Nat.{ℕ}
 use mathlib.Core.List.{List}
 use lib.Seq.{sets}

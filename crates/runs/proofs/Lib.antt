@@ -1,3 +1,3 @@
 pub mod Runs
 pub mod Shorts
-pub mod Longs
+pub mod Begins

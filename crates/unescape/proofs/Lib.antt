@@ -1,3 +1,4 @@
+pub mod Longs
 pub mod Stores
 pub mod Bodies
 pub mod Stretches

@@ -16,7 +16,7 @@ use Rattle.items.proofs.Lands.{placeOf}
 use Rattle.items.specs.Items.{isBytes, isTemplate, itemBytes, itemOf}
 use Rattle.items.specs.declared.Form.{Form}
 use Rattle.laws.proofs.Cases.{never, split, split-eq, split-le}
-use Rattle.runs.proofs.Longs.{begins-item}
+use Rattle.runs.proofs.Begins.{begins-item}
 use Rattle.runs.proofs.Runs.{bare-backslash, bare-cons, bare-end, bare-more, bare-scalar, high-here, low-few, low-here}
 use Rattle.runs.proofs.Shorts.{short-here}
 use Rattle.runs.specs.Runs.{asciiOf, bareOf, beginsOf, escapedAt, itemIn, limitOf, runOf, shortOf}

@@ -1,4 +1,5 @@
 // A whole body: measured first, so that a refusal writes nothing, and then written.
+use crate::long::long_at;
 use encoding::Encoded;
 use escapes::Escape;
 use items::Form;
@@ -8,7 +9,6 @@ use items::is_template;
 use items::item_at;
 use runs::begin_at;
 use runs::escaped_at;
-use runs::long_at;
 use runs::run_end;
 use runs::short_escape;
 use runs::short_limit;

@@ -25,6 +25,7 @@
 #[allow(unsafe_code)]
 mod calls;
 mod kind;
+mod lent;
 mod lexer;
 mod lists;
 mod lookahead;

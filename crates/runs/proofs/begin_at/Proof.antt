@@ -1,6 +1,6 @@
 use mathlib.Core.Path.{sym, _∙_}
 use borrow.Author.Needs.{needs}
-use Rattle.runs.proofs.Longs.{begins-end, begins-item}
+use Rattle.runs.proofs.Begins.{begins-end, begins-item}
 use Rattle.text.proofs.Decode.{step-none, step-one}
 use Rattle.runs.proofs.begin_at.Statement.{statement}
 use Rattle.runs.proofs.begin_at.Tie as tie

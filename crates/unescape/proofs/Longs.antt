@@ -1,7 +1,7 @@
 -- Escapes that are read by value are what document 01 gives them. Assumes nothing.
 use Prim.Native.Nat.{ℕ, _+_, _-_, _*_, _/_, _≤_, _<_}
 use mathlib.Core.Path.{_≡_, refl, sym, ap, ap₂, _∙_, subst}
-use mathlib.Core.List.{List, []}
+use mathlib.Core.List.{List}
 use mathlib.Core.Bool.{Bool, true, false, not}
 use native.Mathlib.Omega.{arith}
 use lib.ListN.{getD, length}
@@ -11,16 +11,17 @@ use Rattle.digits.specs.Digits.{hexValue, isHexDigit}
 use Rattle.escapes.proofs.Escapes.{byte-turn, char-turn, close-yes, digits-close, digits-more, hex-small, hex-yes, second-yes, unicode-open}
 use Rattle.escapes.specs.Escapes.{byteTurn, charTurn, digitsOf, hexOf, lowOnly, shiftIn, unicodeOf}
 use Rattle.escapes.specs.declared.Escape.{Escape}
-use Rattle.escapes.specs.declared.Escape.the-variants.{Item, Skipped}
+use Rattle.escapes.specs.declared.Escape.the-variants.{Item}
 use Rattle.items.proofs.Begins.{item-byte, item-char}
 use Rattle.items.specs.Items.{isBytes, isSingle, isTemplate, itemOf}
 use Rattle.items.specs.declared.Form.{Form}
 use Rattle.laws.proofs.Cases.{both-false, never, split-le}
 use Rattle.laws.specs.Bools.{same}
 use Rattle.runs.proofs.Shorts.{escaped-inv}
-use Rattle.runs.specs.Runs.{Closed, Hex, Packed, beginsOf, escapedAt}
+use Rattle.runs.specs.Runs.{beginsOf, escapedAt}
 use Rattle.text.proofs.Decode.{Step, step-ascii}
 use Rattle.text.specs.Utf8.{rest}
+use Rattle.unescape.specs.Longs.{Closed, Hex, Packed}
 
 hex-ascii : (v : ℕ) → isHexDigit v ≡ true → v ≤ 0x7f
 hex-ascii v h =
@@ -121,12 +122,3 @@ module _ (form : Form) (s : List ℕ) (at v r : ℕ) (q : v ≡ escapedAt s at) 
   unfolding charTurn
   char-unicode b e p z =
       p z ∙ ap (λ (k : ℕ). charTurn (isTemplate form) (not (isSingle form)) k (rest s (at + 2)) (at + 2)) (sym e) ∙ begins-char form s at v q (omega arith) (λ k. omega arith) b
-
-module _ (form : Form) (s : List ℕ) (at : ℕ) where
-  pub begins-end : rest s at ≡ [] → Skipped at ≡ beginsOf form (rest s at) at
-  unfolding beginsOf
-  begins-end e = rw e
-
-  pub begins-item : (v n : ℕ) → Step s at v n → itemOf form v (rest s n) n ≡ beginsOf form (rest s at) at
-  unfolding beginsOf
-  begins-item v n t = sym (rw (t .here) (ap (itemOf form v (rest s n)) (sym (t .next))))

@@ -3,8 +3,8 @@ use native.Mathlib.Omega.{arith}
 use borrow.Author.Needs.{needs}
 use borrow.Author.Tests.{not-false}
 use Rattle.encoding.proofs.Rows.{scalar-most}
-use Rattle.runs.proofs.unicode_closed.Statement.{statement}
-use Rattle.runs.proofs.unicode_closed.Tie as tie
+use Rattle.unescape.proofs.long.unicode_closed.Statement.{statement}
+use Rattle.unescape.proofs.long.unicode_closed.Tie as tie
 
 returns : tie.Need-returns
 returns c = λ h. absurd (omega arith)

@@ -2,9 +2,9 @@ use Prim.Native.Nat.{_-_}
 use mathlib.Core.Path.{refl}
 use native.Mathlib.Omega.{arith}
 use borrow.Author.Needs.{needs}
-use Rattle.runs.proofs.Longs.{Digits, digits-first, digits-next, digits-packed, nothing}
-use Rattle.runs.proofs.unicode_at.Statement.{statement}
-use Rattle.runs.proofs.unicode_at.Tie as tie
+use Rattle.unescape.proofs.Longs.{Digits, digits-first, digits-next, digits-packed, nothing}
+use Rattle.unescape.proofs.long.unicode_at.Statement.{statement}
+use Rattle.unescape.proofs.long.unicode_at.Tie as tie
 
 abbrev Inv-loop : tie.InvT-loop
 Inv-loop s at left i₀ some₀ x₀ i some x = Digits s at left i some x

@@ -1,8 +1,8 @@
 use native.Mathlib.Omega.{arith}
 use borrow.Author.Needs.{needs}
-use Rattle.runs.proofs.Longs.{is-digit, is-high, is-low}
-use Rattle.runs.proofs.hex_digit.Statement.{statement}
-use Rattle.runs.proofs.hex_digit.Tie as tie
+use Rattle.unescape.proofs.Longs.{is-digit, is-high, is-low}
+use Rattle.unescape.proofs.long.hex_digit.Statement.{statement}
+use Rattle.unescape.proofs.long.hex_digit.Tie as tie
 
 returns : tie.Need-returns
 returns c = λ h. absurd (omega arith)

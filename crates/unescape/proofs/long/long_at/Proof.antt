@@ -1,8 +1,8 @@
 use mathlib.Core.Path.{sym, _∙_}
 use borrow.Author.Needs.{needs}
-use Rattle.runs.proofs.Longs.{byte-hex, char-hex, char-unicode, nothing}
-use Rattle.runs.proofs.long_at.Statement.{statement}
-use Rattle.runs.proofs.long_at.Tie as tie
+use Rattle.unescape.proofs.Longs.{byte-hex, char-hex, char-unicode, nothing}
+use Rattle.unescape.proofs.long.long_at.Statement.{statement}
+use Rattle.unescape.proofs.long.long_at.Tie as tie
 
 escaped-at-requires : tie.Need-escaped-at-requires
 escaped-at-requires c κs = search needs

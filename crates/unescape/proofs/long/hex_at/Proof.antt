@@ -1,9 +1,9 @@
 use mathlib.Core.Path.{refl}
 use native.Mathlib.Omega.{arith}
 use borrow.Author.Needs.{needs}
-use Rattle.runs.proofs.Longs.{hex-packed, nothing}
-use Rattle.runs.proofs.hex_at.Statement.{statement}
-use Rattle.runs.proofs.hex_at.Tie as tie
+use Rattle.unescape.proofs.Longs.{hex-packed, nothing}
+use Rattle.unescape.proofs.long.hex_at.Statement.{statement}
+use Rattle.unescape.proofs.long.hex_at.Tie as tie
 
 returns : tie.Need-returns
 returns c = (nothing _ _, omega arith)
