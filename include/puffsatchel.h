@@ -20,7 +20,7 @@ extern "C" {
 #endif
 
 /* The version of this page; puffsatchel_version() is that of the archive. */
-#define PUFFSATCHEL_VERSION 2
+#define PUFFSATCHEL_VERSION 3
 
 /* Sizes, for memory that is always enough. */
 enum {
@@ -30,7 +30,7 @@ enum {
     PUFFSATCHEL_BYTES_PER_RECORD = 11,                                  /* of a stored list */
     PUFFSATCHEL_LARGEST_STORED = 11 * PUFFSATCHEL_LARGEST_SOURCE,       /* bytes */
     PUFFSATCHEL_DEEPEST_TEMPLATE = 64,
-    PUFFSATCHEL_AHEAD_BYTES = 1128,                                     /* of a lookahead's state */
+    PUFFSATCHEL_AHEAD_BYTES = 1112,                                     /* of a lookahead's state */
     PUFFSATCHEL_MOST_HELD = 8,                                          /* tokens that the lookahead holds */
     PUFFSATCHEL_MOST_WAITING = 256,                                     /* tokens of white space that wait */
     PUFFSATCHEL_LARGEST_BUMP = 3 * (256 + 1)                            /* words: one token with all that waits before it */
@@ -215,10 +215,10 @@ uint32_t puffsatchel_load(const uint8_t *bytes, size_t bytes_len, uint32_t *out,
 typedef struct puffsatchel_ahead {
     uint32_t next;          /* the first token of the list that was not read */
     uint32_t keep;          /* 0: white space is dropped */
-    size_t held_at;         /* where the rings begin, and how many they have */
-    size_t held_len;
-    size_t wait_at;
-    size_t wait_len;
+    uint32_t held_at;       /* where the rings begin, and how many they have */
+    uint32_t held_len;
+    uint32_t wait_at;
+    uint32_t wait_len;
     uint32_t held[8];       /* tokens by their number in the list, in a ring */
     uint32_t counts[8];     /* how many of those that wait stand before each */
     uint32_t waiting[256];  /* white space by its number in the list, in a ring */

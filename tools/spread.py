@@ -13,17 +13,17 @@ HERE = os.path.dirname(os.path.abspath(__file__))
 sys.path.insert(0, HERE)
 from walks import CALLS, SHAPES, cite, opened, shaped, write  # noqa: E402
 
-ARRAYS = [('held', 8, 40), ('counts', 8, 72), ('waiting', 256, 104)]  # name, length, offset in the state
+ARRAYS = [('nums', 6, 0), ('held', 8, 24), ('counts', 8, 56), ('waiting', 256, 88)]  # name, length, offset in the state
 CRATE = 'lookahead'
 WALKS = 'ahead'  # the crate of the state, and of the shared walks
 
 
 def layout(n, o):
-    """The numbers of a shape; d is the local of the callee's result."""
+    """The numbers of a shape; the arrays' references are the locals from d on."""
     d = 4 + n + o
-    table = dict(list=3 + n, out=4 + n, d=d, nums=d + 1, part=d + 5, pair=d + 6, params=3 + n + o, lfts=2 + o, loans=4 + o)
-    arrays = [dict(name=a, size=size, off=off, i=i, field=i + 1, local=d + 2 + i, ones=' .1' * (i + 1)) for i, (a, size, off) in enumerate(ARRAYS)]
-    return table, d + 5 + 2 * o, arrays
+    table = dict(list=3 + n, out=4 + n, part=d + 4, pair=d + 5, params=3 + n + o, lfts=2 + o, loans=5 + o)
+    arrays = [dict(name=a, size=size, off=off, i=i, field=i, local=d + i, ones=' .1' * i) for i, (a, size, off) in enumerate(ARRAYS)]
+    return table, d + 4 + 2 * o, arrays
 
 
 def walks():

@@ -53,7 +53,7 @@ def shaped(text, n, o, table, locals, arrays=()):
         if kind in 'no':
             return inner if (n if kind == 'n' else o) else ''
         rows = (arrays if kind in '+-' else places)[::-1 if kind in '-/' else 1]
-        return ''.join(numbered(inner.replace('ᵢ', '₁₂₃'[r['i']]) if 'i' in r else inner, r) for r in rows)
+        return ''.join(numbered(inner.replace('ᵢ', '₁₂₃₄'[r['i']]) if 'i' in r else inner, r) for r in rows)
 
     def nested(m):
         comma, text = (',', 'tt') if m.group(0)[0] == '⟨' else (' ×', 'Unit {0}')

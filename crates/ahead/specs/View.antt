@@ -2,11 +2,11 @@
 use mathlib.Core.Bool.{Bool}
 use lib.ListN.{replicate}
 use Rattle.ahead.specs.declared.Ahead.{Ahead}
-use Rattle.looks.specs.Buffer.{State, stateOf}
+use Rattle.looks.specs.Buffer.{State, numsOf, stateOf}
 use Rattle.looks.specs.Front.{yes}
 
 abbrev pub viewOf : Ahead → State
-viewOf a = stateOf (a .nums) (a .held) (a .counts) (a .waiting)
+viewOf a = stateOf (numsOf (a .nums)) (a .held) (a .counts) (a .waiting)
 
 -- a fresh state: nothing is held, nothing waits, and white space is kept or dropped
 abbrev pub freshBy : Bool → State

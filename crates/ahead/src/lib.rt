@@ -1,13 +1,13 @@
 // The state of the parser's lookahead buffer, and a fresh one. In proofs/spread: how a call lends the state's arrays where they lie.
-use looks::Nums;
 ghost use mathlib.Core.Path.{_≡_};
 ghost use Rattle.ahead.specs.View.{freshBy, viewOf};
 ghost use Rattle.looks.specs.Front.{yes};
 
-// Held tokens by number, the count of white space before each, and the waiting white space by number.
+// The numbers: the next token of the list, whether white space is kept (0: dropped), where the held tokens start in their ring and how many there are,
+// and the same of the waiting white space. Then the held tokens by number, the count of white space before each, and the waiting white space by number.
 #[repr(C)]
 pub struct Ahead {
-    pub nums: Nums,
+    pub nums: [u32; 6],
     pub held: [u32; 8],
     pub counts: [u32; 8],
     pub waiting: [u32; 256],
@@ -28,14 +28,7 @@ impl Ahead {
         ensures { λ r. ⌜ viewOf r ≡ freshBy keep ⌝ }
     {
         Self {
-            nums: Nums {
-                next: 0,
-                keep: flag(keep),
-                held_at: 0,
-                held_len: 0,
-                wait_at: 0,
-                wait_len: 0,
-            },
+            nums: [0, flag(keep), 0, 0, 0, 0],
             held: [0; 8],
             counts: [0; 8],
             waiting: [0; 256],

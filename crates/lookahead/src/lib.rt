@@ -25,100 +25,88 @@ pub fn fill(state: &mut Ahead, tested: u32, n: usize, list: &[u32]) -> Looked
     ensures { λ r. ⌜ (viewOf (now (state .exit)) ≡ fillBy tested (now (list .entry)) n (viewOf (now (state .entry))) .state)
         × (r ≡ fillBy tested (now (list .entry)) n (viewOf (now (state .entry))) .answer) ⌝ }
 {
-    let d = fill_at(
-        state.nums,
+    fill_at(
+        &mut state.nums,
         &mut state.held,
         &mut state.counts,
         &mut state.waiting,
         tested,
         n,
         list,
-    );
-    state.nums = d.nums;
-    d.answer
+    )
 }
 
 pub fn peek(state: &mut Ahead, tested: u32, list: &[u32]) -> Looked
     ensures { λ r. ⌜ (viewOf (now (state .exit)) ≡ nthBy tested (now (list .entry)) 0 (viewOf (now (state .entry))) .state)
         × (r ≡ nthBy tested (now (list .entry)) 0 (viewOf (now (state .entry))) .answer) ⌝ }
 {
-    let d = peek_at(
-        state.nums,
+    peek_at(
+        &mut state.nums,
         &mut state.held,
         &mut state.counts,
         &mut state.waiting,
         tested,
         list,
-    );
-    state.nums = d.nums;
-    d.answer
+    )
 }
 
 pub fn nth(state: &mut Ahead, tested: u32, n: usize, list: &[u32]) -> Looked
     ensures { λ r. ⌜ (viewOf (now (state .exit)) ≡ nthBy tested (now (list .entry)) n (viewOf (now (state .entry))) .state)
         × (r ≡ nthBy tested (now (list .entry)) n (viewOf (now (state .entry))) .answer) ⌝ }
 {
-    let d = nth_at(
-        state.nums,
+    nth_at(
+        &mut state.nums,
         &mut state.held,
         &mut state.counts,
         &mut state.waiting,
         tested,
         n,
         list,
-    );
-    state.nums = d.nums;
-    d.answer
+    )
 }
 
 pub fn nth_token(state: &mut Ahead, tested: u32, n: usize, list: &[u32]) -> Looked
     ensures { λ r. ⌜ (viewOf (now (state .exit)) ≡ nthTokenBy tested (now (list .entry)) n (viewOf (now (state .entry))) .state)
         × (r ≡ nthTokenBy tested (now (list .entry)) n (viewOf (now (state .entry))) .answer) ⌝ }
 {
-    let d = nth_token_at(
-        state.nums,
+    nth_token_at(
+        &mut state.nums,
         &mut state.held,
         &mut state.counts,
         &mut state.waiting,
         tested,
         n,
         list,
-    );
-    state.nums = d.nums;
-    d.answer
+    )
 }
 
 pub fn glued(state: &mut Ahead, tested: u32, n: usize, list: &[u32]) -> Looked
     ensures { λ r. ⌜ (viewOf (now (state .exit)) ≡ gluedBy tested (now (list .entry)) n (viewOf (now (state .entry))) .state)
         × (r ≡ gluedBy tested (now (list .entry)) n (viewOf (now (state .entry))) .answer) ⌝ }
 {
-    let d = glued_at(
-        state.nums,
+    glued_at(
+        &mut state.nums,
         &mut state.held,
         &mut state.counts,
         &mut state.waiting,
         tested,
         n,
         list,
-    );
-    state.nums = d.nums;
-    d.answer
+    )
 }
 
 pub fn is_eof(state: &mut Ahead, tested: u32, list: &[u32]) -> Looked
     ensures { λ r. ⌜ (viewOf (now (state .exit)) ≡ isEofBy tested (now (list .entry)) (viewOf (now (state .entry))) .state)
         × (r ≡ isEofBy tested (now (list .entry)) (viewOf (now (state .entry))) .answer) ⌝ }
 {
-    let d = is_eof_at(
-        state.nums,
+    is_eof_at(
+        &mut state.nums,
         &mut state.held,
         &mut state.counts,
         &mut state.waiting,
         tested,
         list,
-    );
-    state.nums = d.nums;
-    d.answer
+    )
 }
 
 pub fn flush_ws(state: &mut Ahead, tested: u32, list: &[u32], out: &mut [u32]) -> Looked
@@ -126,17 +114,15 @@ pub fn flush_ws(state: &mut Ahead, tested: u32, list: &[u32], out: &mut [u32]) -
         × (r ≡ flushBy tested (now (list .entry)) (length (now (out .entry))) (viewOf (now (state .entry))) .answer)
         × (now (out .exit) ≡ sets (now (out .entry)) 0 (flushBy tested (now (list .entry)) (length (now (out .entry))) (viewOf (now (state .entry))) .written)) ⌝ }
 {
-    let d = flush_at(
-        state.nums,
+    flush_at(
+        &mut state.nums,
         &mut state.held,
         &mut state.counts,
         &mut state.waiting,
         tested,
         list,
         out,
-    );
-    state.nums = d.nums;
-    d.answer
+    )
 }
 
 pub fn bump(state: &mut Ahead, tested: u32, list: &[u32], out: &mut [u32]) -> Looked
@@ -144,17 +130,15 @@ pub fn bump(state: &mut Ahead, tested: u32, list: &[u32], out: &mut [u32]) -> Lo
         × (r ≡ bumpBy tested (now (list .entry)) (length (now (out .entry))) (viewOf (now (state .entry))) .answer)
         × (now (out .exit) ≡ sets (now (out .entry)) 0 (bumpBy tested (now (list .entry)) (length (now (out .entry))) (viewOf (now (state .entry))) .written)) ⌝ }
 {
-    let d = bump_at(
-        state.nums,
+    bump_at(
+        &mut state.nums,
         &mut state.held,
         &mut state.counts,
         &mut state.waiting,
         tested,
         list,
         out,
-    );
-    state.nums = d.nums;
-    d.answer
+    )
 }
 
 pub fn bump_if(state: &mut Ahead, tested: u32, kind: u32, list: &[u32], out: &mut [u32]) -> Looked
@@ -162,8 +146,8 @@ pub fn bump_if(state: &mut Ahead, tested: u32, kind: u32, list: &[u32], out: &mu
         × (r ≡ bumpIfBy tested (now (list .entry)) kind (length (now (out .entry))) (viewOf (now (state .entry))) .answer)
         × (now (out .exit) ≡ sets (now (out .entry)) 0 (bumpIfBy tested (now (list .entry)) kind (length (now (out .entry))) (viewOf (now (state .entry))) .written)) ⌝ }
 {
-    let d = bump_if_at(
-        state.nums,
+    bump_if_at(
+        &mut state.nums,
         &mut state.held,
         &mut state.counts,
         &mut state.waiting,
@@ -171,9 +155,7 @@ pub fn bump_if(state: &mut Ahead, tested: u32, kind: u32, list: &[u32], out: &mu
         kind,
         list,
         out,
-    );
-    state.nums = d.nums;
-    d.answer
+    )
 }
 
 pub fn bump_while(
@@ -187,8 +169,8 @@ pub fn bump_while(
         × (r ≡ bumpWhileBy tested (now (list .entry)) kind (length (now (out .entry))) (viewOf (now (state .entry))) .answer)
         × (now (out .exit) ≡ sets (now (out .entry)) 0 (bumpWhileBy tested (now (list .entry)) kind (length (now (out .entry))) (viewOf (now (state .entry))) .written)) ⌝ }
 {
-    let d = bump_while_at(
-        state.nums,
+    bump_while_at(
+        &mut state.nums,
         &mut state.held,
         &mut state.counts,
         &mut state.waiting,
@@ -196,9 +178,7 @@ pub fn bump_while(
         kind,
         list,
         out,
-    );
-    state.nums = d.nums;
-    d.answer
+    )
 }
 
 pub fn advance(state: &mut Ahead, tested: u32, n: usize, list: &[u32], out: &mut [u32]) -> Looked
@@ -206,8 +186,8 @@ pub fn advance(state: &mut Ahead, tested: u32, n: usize, list: &[u32], out: &mut
         × (r ≡ advanceBy tested (now (list .entry)) n (length (now (out .entry))) (viewOf (now (state .entry))) .answer)
         × (now (out .exit) ≡ sets (now (out .entry)) 0 (advanceBy tested (now (list .entry)) n (length (now (out .entry))) (viewOf (now (state .entry))) .written)) ⌝ }
 {
-    let d = advance_at(
-        state.nums,
+    advance_at(
+        &mut state.nums,
         &mut state.held,
         &mut state.counts,
         &mut state.waiting,
@@ -215,9 +195,7 @@ pub fn advance(state: &mut Ahead, tested: u32, n: usize, list: &[u32], out: &mut
         n,
         list,
         out,
-    );
-    state.nums = d.nums;
-    d.answer
+    )
 }
 
 pub fn array(state: &mut Ahead, tested: u32, n: usize, list: &[u32], out: &mut [u32]) -> Looked
@@ -225,8 +203,8 @@ pub fn array(state: &mut Ahead, tested: u32, n: usize, list: &[u32], out: &mut [
         × (r ≡ arrayBy tested (now (list .entry)) n (length (now (out .entry))) (viewOf (now (state .entry))) .answer)
         × (now (out .exit) ≡ sets (now (out .entry)) 0 (arrayBy tested (now (list .entry)) n (length (now (out .entry))) (viewOf (now (state .entry))) .written)) ⌝ }
 {
-    let d = array_at(
-        state.nums,
+    array_at(
+        &mut state.nums,
         &mut state.held,
         &mut state.counts,
         &mut state.waiting,
@@ -234,7 +212,5 @@ pub fn array(state: &mut Ahead, tested: u32, n: usize, list: &[u32], out: &mut [
         n,
         list,
         out,
-    );
-    state.nums = d.nums;
-    d.answer
+    )
 }

@@ -12,7 +12,7 @@ use Rattle.laws.proofs.Sets.{sets-append}
 use Rattle.laws.specs.Bools.{same}
 use Rattle.looks.proofs.Answers.{refusal-none}
 use Rattle.looks.proofs.Turns.{front-length, front-state, front-words, nth-length}
-use Rattle.looks.specs.Buffer.{State, ringAt}
+use Rattle.looks.specs.Buffer.{State, fitsFor, ringAt}
 use Rattle.looks.specs.Calls.{advanceRefusal, advanceWords, advanced, arrayRefusal, arrayWords, bumped, withNums}
 use Rattle.looks.specs.Front.{frontWhite, frontWords, lessHeld, lessWaiting, nthOf, nthWords, waitWords, whiteOf}
 use Rattle.looks.specs.Sound.{countSum, soundBy}
@@ -42,14 +42,16 @@ module _ (t : ℕ) (l : List ℕ) (n : ℕ) (st : State) where
       (λ h. never (let w : _≡_ {A = ℕ} 32 0 = rw (s, lt-leb n (st .nums .«held_len») h) at e in omega arith)))
       (λ s. never (let w : _≡_ {A = ℕ} 34 0 = rw s at e in omega arith))
 
-  pub array-none : arrayRefusal t l n st ≡ 0 → (soundBy t l st ≡ true) × (n ≤ 8)
-  unfolding arrayRefusal
+  pub array-none : arrayRefusal t l n st ≡ 0 → (soundBy t l st ≡ true) × (n ≤ 8) × (fitsFor l (n - st .nums .«held_len») (st .nums) ≡ true)
+  unfolding arrayRefusal fitsFor
   array-none e =
       split-eq n 0
       (λ z. split (soundBy t l st)
-      (λ s. (s, omega arith))
+      (λ s. let k : n - st .nums .«held_len» ≡ 0 = omega arith in (s, omega arith, ap (λ (i : ℕ). fitsFor l i (st .nums)) k))
       (λ s. never (let w : _≡_ {A = ℕ} 34 0 = rw (eq-eqb n 0 z, s) at e in omega arith)))
-      (λ z. let r = refusal-none t l (n - 1) st (rw (ne-eqb n 0 z) at e) in (r .0, omega (arith, r .1)))
+      (λ z. let r = refusal-none t l (n - 1) st (rw (ne-eqb n 0 z) at e) in
+      let k : n - st .nums .«held_len» ≡ n - 1 + 1 - st .nums .«held_len» = omega arith in
+      (r .0, omega (arith, r .1), ap (λ (i : ℕ). fitsFor l i (st .nums)) k ∙ r .2))
 
 -- the numbers after a held token was emitted
 module _ (w : ℕ) (m : Nums) (h : m .«held_len» ≡ 0 → ⊥) where

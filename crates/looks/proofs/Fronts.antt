@@ -19,6 +19,12 @@ fill-held l st h =
     let e : 0 + 1 - st .nums .«held_len» ≡ 0 = omega arith in
     ap (λ (k : ℕ). gathers l k st) e
 
+pub fill-enough : (l : List ℕ) (n : ℕ) (st : State) → n < st .nums .«held_len» → fill l n st ≡ st
+unfolding gathers
+fill-enough l n st h =
+    let e : n + 1 - st .nums .«held_len» ≡ 0 = omega arith in
+    ap (λ (k : ℕ). gathers l k st) e
+
 pub fill-none : (l : List ℕ) (st : State) → st .nums .«held_len» ≡ 0 → fill l 0 st ≡ gather l st
 unfolding gathers
 fill-none l st h =

@@ -1,16 +1,17 @@
 -- Steps of filling: the numbers after one more token, the queue, and what stays small. Assumes nothing.
 use Prim.Native.Nat.{ℕ, zero, suc, _+_, _-_, _*_, _%_, _≤_, _<_}
-use mathlib.Core.Path.{_≡_, refl, ap, ap₂, _∙_}
+use mathlib.Core.Path.{_≡_, refl, sym, ap, ap₂, _∙_}
 use mathlib.Core.List.{List}
 use mathlib.Core.Bool.{true, false}
 use native.Mathlib.Omega.{arith}
-use lib.Dec.{ltb}
-use lib.ListN.{set}
-use borrow.Author.Tests.{le-leb, le-ltb, lt-leb, lt-ltb}
-use Rattle.laws.proofs.Cases.{split, split-le}
+use lib.Dec.{leb, ltb}
+use lib.ListN.{getD, length, set}
+use borrow.Author.Tests.{le-leb, le-ltb, leb-true, lt-leb, lt-ltb}
+use Rattle.laws.proofs.Cases.{both-inv, both-true, split, split-le}
 use Rattle.laws.specs.Bools.{same}
 use Rattle.looks.proofs.Numbers.{count-bound, dark-bound}
-use Rattle.looks.specs.Buffer.{Roomy, State, fitsFor, gather, gatherAt, gatherNums, gatherTo, gathers, keeps, queued, stateOf, whiteTo}
+use Rattle.looks.proofs.Six.{six-last, six-more}
+use Rattle.looks.specs.Buffer.{Gatherable, Roomy, State, fitsFor, gather, gatherAt, gatherNums, gatherTo, gathers, keeps, numsOf, queued, stateOf, whiteTo}
 use Rattle.looks.specs.Numbered.{dark, tokenCount}
 use Rattle.looks.specs.declared.state.Nums.{Nums}
 
@@ -124,14 +125,47 @@ pub gathers-end : (l : List ℕ) (left : ℕ) (st : State) → left ≤ 0 → ga
 unfolding gathers
 gathers-end l left st h = ap (λ (n : ℕ). gathers l n st) (let e : left ≡ 0 = omega arith in e)
 
--- what the code writes for one more token is the definition's
-module _ (p count : ℕ) (m : Nums) (held counts waiting : List ℕ) where
-  pub gather-at-more : (n : Nums) (w : ℕ) (ring : List ℕ) → p < count → w ≡ whiteTo p m → n ≡ gatherTo p count m → ring ≡ queued w waiting (m .«wait_at» + m .«wait_len») (m .next)
-      → stateOf n (set held ((m .«held_at» + m .«held_len») % 8) p) (set counts ((m .«held_at» + m .«held_len») % 8) w) ring ≡ gatherAt p count (stateOf m held counts waiting)
-  unfolding gatherAt
-  gather-at-more n w ring h e f g = rw (g, f, e, lt-ltb p count h)
+-- where 256 suffice they suffice for the first, and for the rest
+module _ (l : List ℕ) (left : ℕ) (h : 0 < left) (m : Nums) where
+  pub fits-inv : fitsFor l left m ≡ true → (gatherNums l m .«wait_len» ≤ 256) × (fitsFor l (left - 1) (gatherNums l m) ≡ true)
+  unfolding fitsFor
+  fits-inv e =
+      let f = sym (ap (λ (n : ℕ). fitsFor l n m) (left-more l left h)) ∙ e in
+      let b = both-inv (leb (gatherNums l m .«wait_len») 256) _ f in
+      (leb-true _ _ (b .0), b .1)
 
-  pub gather-at-last : (n : Nums) (w : ℕ) (ring : List ℕ) → count ≤ p → w ≡ whiteTo p m → n ≡ gatherTo p count m → ring ≡ queued w waiting (m .«wait_at» + m .«wait_len») (m .next)
-      → stateOf n held counts ring ≡ gatherAt p count (stateOf m held counts waiting)
+  pub gatherable-to : Gatherable l left m → (m .next ≤ dark l (m .next)) × (m .«wait_len» + whiteTo (dark l (m .next)) m ≤ 256)
+  gatherable-to g =
+      let e = gather-waits (dark l (m .next)) (tokenCount l) m in
+      let f = fits-inv (g .fit) in
+      (dark-bound l (m .next) (g .reach) .0, omega (arith, f .0))
+
+  pub gatherable-more : Gatherable l left m → Gatherable l (left - 1) (gatherNums l m)
+  gatherable-more g =
+      let p = dark l (m .next) in
+      let t = dark-bound l (m .next) (g .reach) in
+      let k = gather-held p (tokenCount l) m in
+      let f = fits-inv (g .fit) in
+      let few = g .held in
+      record {
+        reach = k .1 (t .1);
+        roomy = gather-roomy p (tokenCount l) m (g .roomy) (omega arith) (omega (arith, f .0));
+        held = omega (arith, k .0);
+        wait = f .0;
+        fit = f .1;
+      }
+
+pub fits-one : (l : List ℕ) (m : Nums) → fitsFor l 1 m ≡ leb (m .«wait_len» + whiteTo (dark l (m .next)) m) 256
+unfolding fitsFor
+fits-one l m = both-true (leb (gatherNums l m .«wait_len») 256) ∙ ap (λ (k : ℕ). leb k 256) (gather-waits (dark l (m .next)) (tokenCount l) m)
+
+-- what the code writes for one more token is the definition's
+module _ (p count : ℕ) (w held counts waiting : List ℕ) (six : length w ≡ 6) (x at : ℕ) (ring : List ℕ) (e : x ≡ whiteTo p (numsOf w)) (a : at ≡ getD w 4 0 + getD w 5 0) (r : ring ≡ queued x waiting at (getD w 0 0)) where
+  pub lies-last : count ≤ p → stateOf (numsOf (set (set w 5 (getD w 5 0 + x)) 0 p)) held counts ring ≡ gatherAt p count (stateOf (numsOf w) held counts waiting)
   unfolding gatherAt
-  gather-at-last n w ring h e f g = rw (g, f, e, le-ltb p count h)
+  lies-last h = rw (six-last w six (getD w 5 0 + x) p 0 ∙ gather-last p count (numsOf w) h x e, r, a, e, le-ltb p count h)
+
+  pub lies-more : p < count → (slot : ℕ) → slot ≡ (getD w 2 0 + getD w 3 0) % 8
+      → stateOf (numsOf (set (set (set w 5 (getD w 5 0 + x)) 0 (p + 1)) 3 (getD w 3 0 + 1))) (set held slot p) (set counts slot x) ring ≡ gatherAt p count (stateOf (numsOf w) held counts waiting)
+  unfolding gatherAt
+  lies-more h slot s = rw (six-more w six (getD w 5 0 + x) (p + 1) (getD w 3 0 + 1) ∙ gather-more p count (numsOf w) h x e, s, r, a, e, lt-ltb p count h)

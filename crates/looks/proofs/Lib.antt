@@ -1,10 +1,12 @@
 pub mod Numbers
-pub mod Gathers
 pub mod Sounds
+pub mod Six
+pub mod Gathers
 pub mod Stores
 pub mod Fronts
 pub mod Answers
 pub mod Turns
+pub mod Needed
 pub mod Advances
 pub mod Plans
 pub mod Planning

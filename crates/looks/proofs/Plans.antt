@@ -78,7 +78,7 @@ module _ (l : List ℕ) (kind before n : ℕ) (st : State) where
   unfolding planOf
   plan-full e = rw e
 
-  run-stop : goesOn l kind (f₀ .nums) (f₀ .held) ≡ false → (k : ℕ) → runOf l kind k f₀ ≡ stops f₀
+  pub run-stop : goesOn l kind (f₀ .nums) (f₀ .held) ≡ false → (k : ℕ) → runOf l kind k f₀ ≡ stops f₀
   unfolding runOf
   run-stop e zero = refl
   run-stop e (suc k) = rw e

@@ -2,29 +2,29 @@
 use Prim.Native.Nat.{ℕ, zero, suc, _+_, _-_, _*_, _%_, _≤_, _<_}
 use mathlib.Core.Path.{_≡_, refl, sym, ap, ap₂, _∙_, subst}
 use mathlib.Core.List.{List, _++_}
-use mathlib.Core.Bool.{true, false}
+use mathlib.Core.Bool.{Bool, true, false}
 use native.Mathlib.Omega.{arith}
-use lib.Dec.{ltb}
+use lib.Dec.{ltb, eqb}
 use lib.Seq.{getD-set-same, length-sets, sets}
 use lib.ListN.{getD, length, length-append}
 use borrow.Author.Tests.{eq-eqb, le-ltb, leb-true, lt-ltb, ltb-true, ne-eqb}
-use Rattle.laws.proofs.Cases.{both-inv, never, split, split-eq, split-le}
+use Rattle.laws.proofs.Cases.{both-false, both-inv, never, split, split-eq, split-le}
 use Rattle.laws.proofs.Sets.{sets-append}
-use Rattle.laws.specs.Bools.{both, same}
-use Rattle.looks.proofs.Answers.{sound-bounded}
+use Rattle.laws.specs.Bools.{both, pick, same}
+use Rattle.looks.proofs.Answers.{gather-ready, sound-bounded}
 use Rattle.looks.proofs.Fronts.{fill-held, fill-none}
 use Rattle.looks.proofs.Gathers.{gather-held}
 use Rattle.looks.proofs.Numbers.{dark-bound}
 use Rattle.looks.proofs.Planning.{fewer, plannable-after, turn-few}
-use Rattle.looks.proofs.Plans.{fill-nums, fill-sizes, fits-front}
+use Rattle.looks.proofs.Plans.{fill-nums, fill-sizes, fits-front, plan-stop, run-stop}
 use Rattle.looks.proofs.Sounds.{Bounded}
-use Rattle.looks.proofs.Turns.{front-length, front-words, sound-sum}
-use Rattle.looks.specs.Buffer.{State, fill, fits, gatherAt, gatherNums, gatherTo, ringAt, stateOf, whiteTo}
-use Rattle.looks.specs.Calls.{bumped}
+use Rattle.looks.proofs.Turns.{front-length, front-words, sound-sum, stored-done, unless-yes}
+use Rattle.looks.specs.Buffer.{Gatherable, State, fill, fits, fitsFor, gatherAt, gatherNums, gatherTo, ringAt, stateOf, whiteTo}
+use Rattle.looks.specs.Calls.{bumped, shows, storedBy}
 use Rattle.looks.specs.Front.{Fronted, frontWhite, frontWords, nthOf, waitWords, whiteOf}
 use Rattle.looks.specs.Numbered.{dark, tokenCount}
 use Rattle.looks.specs.Sound.{countSum, good, soundBy}
-use Rattle.looks.specs.While.{Plannable, Run, emitsThen, fillNums, goesOn, planOf, runOf, stops, tokensLeft, whilePlan, whileRefusal, whileRun}
+use Rattle.looks.specs.While.{Plannable, Run, bumpWhileBy, emitsThen, fillNums, goesOn, planOf, runOf, stops, tokensLeft, whilePlan, whileRefusal, whileRun, whileTurn}
 use Rattle.looks.specs.declared.state.Nums.{Nums}
 use Rattle.looks.specs.declared.whiles.Plan.{Plan}
 
@@ -203,6 +203,15 @@ module _ (l : List ℕ) (kind : ℕ) (run : Run) (out₀ out : List ℕ) (f : St
       let m = r .room in
       (omega arith, omega arith)
 
+  pub running-fit : fits l 0 (bumped f .nums) ≡ true
+  running-fit = both-inv (fits l 0 (bumped f .nums)) (then .fitting) (sym (ap (λ (x : Run). x .fitting) run-one) ∙ r .fitting) .0
+
+  -- so the next token can be gathered
+  pub running-next : (s : State) → s ≡ bumped f → Gatherable l (1 - s .nums .«held_len») (s .nums)
+  running-next s e =
+      subst (λ (x : State). Gatherable l (1 - x .nums .«held_len») (x .nums)) (sym e)
+      (gather-ready l (bumped f .nums) 1 _ (good-bounded l (bumped f .nums) (f .held) (f .counts) (good-bump l kind f (r .good) running-some)) (omega arith) refl running-fit)
+
   pub running-good : Steady l (bumped f)
   running-good = good-bump l kind f (r .good) running-some
 
@@ -284,3 +293,29 @@ module _ (t : ℕ) (l : List ℕ) (kind : ℕ) (st : State) where
 
   pub plan-counts : whilePlan l kind st .refusal ≡ 0 → whilePlan l kind st .count ≡ whileRun l kind st .count
   plan-counts e = let p = plan-inv l kind 0 (tokensLeft l (st .nums)) st e in omega (arith, p .2)
+
+-- a token is held and of another kind: nothing is done
+module _ (t : ℕ) (l : List ℕ) (kind room : ℕ) (st : State) (s : soundBy t l st ≡ true) (some : st .nums .«held_len» ≡ 0 → ⊥) (other : goesOn l kind (st .nums) (st .held) ≡ false) where
+  stays : goesOn l kind (fill l 0 st .nums) (fill l 0 st .held) ≡ false
+  stays = ap (λ (x : State). goesOn l kind (x .nums) (x .held)) (fill-held l st some) ∙ other
+
+  fits-now : fits l 0 (st .nums) ≡ true
+  unfolding fitsFor
+  fits-now =
+      let e : 0 + 1 - st .nums .«held_len» ≡ 0 = split-eq (st .nums .«held_len») 0 (λ z. absurd (some z)) (λ z. omega arith) in
+      ap (λ (k : ℕ). fitsFor l k (st .nums)) e
+
+  other-none : whileRefusal t l kind st ≡ 0
+  unfolding whileRefusal
+  other-none =
+      let p = plan-stop l kind 0 (tokensLeft l (st .nums)) st fits-now stays in
+      let z : eqb (fill l 0 st .nums .«held_len») 0 ≡ false = ap (λ (x : State). eqb (x .nums .«held_len») 0) (fill-held l st some) ∙ ne-eqb (st .nums .«held_len») 0 some in
+      rw s (ap (λ (q : Plan). q .refusal) p ∙ ap (λ (b : Bool). pick (both (eqb kind 67) b) 33 0) z ∙ ap (λ (b : Bool). pick b 33 0) (both-false (eqb kind 67)))
+
+  pub while-other : shows 0 st ≡ bumpWhileBy t l kind room st
+  unfolding bumpWhileBy
+  while-other =
+      let run : whileRun l kind st ≡ stops (fill l 0 st) = run-stop l kind 0 0 st stays (tokensLeft l (st .nums)) in
+      let long = ap (λ (r : Run). length (r .written)) run in
+      ap (shows 0) (sym (fill-held l st some)) ∙ ap whileTurn (sym run) ∙ stored-done room st (whileTurn (whileRun l kind st)) (omega arith)
+      ∙ unless-yes (whileRefusal t l kind st) st 0 (sym other-none) (storedBy room st (whileTurn (whileRun l kind st))) refl

@@ -1,5 +1,6 @@
 -- Document 01, "The lookahead buffer": the two rings of the state, and filling.
 use Prim.Native.Nat.{ℕ, zero, suc, _+_, _-_, _%_, _≤_, _<_}
+use mathlib.Core.Path.{_≡_}
 use mathlib.Core.List.{List, [], _∷_}
 use mathlib.Core.Bool.{Bool, true}
 use lib.Dec.{leb, ltb}
@@ -8,6 +9,10 @@ use Rattle.laws.specs.Bools.{both, pick}
 use Rattle.looks.specs.Numbered.{dark, tokenCount}
 use Rattle.looks.specs.declared.emit.Words.{Words}
 use Rattle.looks.specs.declared.state.Nums.{Nums}
+
+-- the numbers, by the six words of the state
+abbrev pub numsOf : List ℕ → Nums
+numsOf w = record { next = getD w 0 0; keep = getD w 1 0; «held_at» = getD w 2 0; «held_len» = getD w 3 0; «wait_at» = getD w 4 0; «wait_len» = getD w 5 0 }
 
 -- the state: its numbers, the held tokens by number, the count of white space before each, and the waiting white space by number
 pub record State : Type 0 where
@@ -90,6 +95,14 @@ pub record Roomy (m : Nums) : Type 0 where
   pub wait-in : m .«wait_at» < 256
   pub held-few : m .«held_len» ≤ 8
   pub wait-few : m .«wait_len» ≤ 1099511627776
+
+-- what so many more tokens ask of the numbers
+pub record Gatherable (l : List ℕ) (times : ℕ) (m : Nums) : Type 0 where
+  pub reach : m .next ≤ tokenCount l
+  pub roomy : Roomy m
+  pub held : m .«held_len» + times ≤ 8
+  pub wait : m .«wait_len» ≤ 256
+  pub fit : fitsFor l times m ≡ true
 
 -- a token of three words
 abbrev pub wordsOf : Words → List ℕ

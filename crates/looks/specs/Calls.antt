@@ -1,9 +1,9 @@
 -- Document 01, "The lookahead buffer": what each call answers, emits and leaves.
-use Prim.Native.Nat.{ℕ, zero, suc, _+_, _-_, _%_}
+use Prim.Native.Nat.{ℕ, zero, suc, _+_, _-_, _*_, _%_, _≤_, _<_}
 use mathlib.Core.List.{List, [], _++_}
 use lib.Dec.{leb, eqb}
 use lib.ListN.{getD, length, set}
-use Rattle.laws.specs.Bools.{pick}
+use Rattle.laws.specs.Bools.{either, pick}
 use Rattle.looks.specs.Buffer.{State, fill, fits, gathers, ringAt, stateOf}
 use Rattle.looks.specs.Front.{frontWords, lessHeld, lessWaiting, nthOf, nthWords, whiteOf, whiteWords, yes}
 use Rattle.looks.specs.Sound.{countSum, soundBy}
@@ -54,6 +54,24 @@ filledBy t l n st asked = unless (fillRefusal t l n st) st (asked (fill l n st))
 -- 33, last: the store is short of what is to be written
 abbrev pub storedBy : ℕ → State → Turn → Turn
 storedBy room st turn = pick (leb (length (turn .written)) room) turn (refuses 33 st)
+
+-- how many words a call of the front writes: the white space alone, the token too, or nothing unless it is of the kind
+unfoldable pub needBy : ℕ → ℕ → ℕ → ℕ → ℕ
+needBy how kind white found = pick (eqb how 0) (white * 3) (pick (either (eqb how 1) (eqb found kind)) (white * 3 + 3) 0)
+
+abbrev pub needOf : List ℕ → ℕ → ℕ → State → ℕ
+needOf l how kind f = needBy how kind (whiteOf f) (getD (nthOf l 0 f) 0 0)
+
+-- the first of 34, 31 and 33 for it, or 0
+unfoldable pub roomRefusal : ℕ → List ℕ → ℕ → ℕ → ℕ → State → ℕ
+roomRefusal t l how kind room st = pick (eqb (fillRefusal t l 0 st) 0) (pick (leb (needOf l how kind (fill l 0 st)) room) 0 33) (fillRefusal t l 0 st)
+
+abbrev pub roomTo : ℕ → List ℕ → ℕ → ℕ → ℕ → State → State
+roomTo t l how kind room st = pick (eqb (roomRefusal t l how kind room st) 0) (fill l 0 st) st
+
+-- no more is emitted than waits, and the waiting ones start in their ring
+abbrev pub Emittable : State → Type 0
+Emittable f = (whiteOf f ≤ f .nums .«wait_len») × (f .nums .«wait_at» < 256)
 
 -- `fill(n)` reads until n + 1 are held or the list ends
 unfoldable pub fillBy : ℕ → List ℕ → ℕ → State → Turn

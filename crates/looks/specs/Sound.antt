@@ -2,7 +2,7 @@
 use Prim.Native.Nat.{ℕ, zero, suc, _+_, _%_}
 use mathlib.Core.List.{List}
 use mathlib.Core.Bool.{Bool, true, false}
-use lib.Dec.{leb, ltb}
+use lib.Dec.{leb, ltb, eqb}
 use lib.ListN.{getD}
 use Rattle.laws.specs.Bools.{both, either, same}
 use Rattle.looks.specs.Buffer.{State}
@@ -52,3 +52,10 @@ unfoldable pub soundBy : ℕ → List ℕ → State → Bool
 soundBy t l st =
     both (both (boundedBy l (st .nums)) (leb (countSum (st .counts) (st .nums .«held_len») (st .nums .«held_at»)) (st .nums .«wait_len»)))
     (either (ltb 0 t) (both (wholeBy l) (orderedBy l st)))
+
+-- the short test where the list and the order were tested before: one held or more, or none
+unfoldable pub someBy : ℕ → List ℕ → Nums → List ℕ → Bool
+someBy t l m counts = both (both (ltb 0 t) (ltb 0 (m .«held_len»))) (both (boundedBy l m) (leb (countSum counts (m .«held_len») (m .«held_at»)) (m .«wait_len»)))
+
+unfoldable pub noneBy : ℕ → List ℕ → Nums → Bool
+noneBy t l m = both (both (ltb 0 t) (eqb (m .«held_len») 0)) (boundedBy l m)

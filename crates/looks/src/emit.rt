@@ -1,16 +1,15 @@
 // What stands in front of a filled state, and its way to the store.
-use crate::list::end_at;
 use crate::list::kind_at;
 use crate::list::list_end;
-use crate::list::start_at;
 use crate::list::wide;
+use crate::list::word;
 use crate::state::Nums;
 ghost use Prim.Native.Nat.{_+_, _*_, _%_, _≤_};
 ghost use mathlib.Core.Path.{_≡_};
 ghost use lib.Seq.{sets};
-ghost use lib.ListN.{length};
-ghost use Rattle.looks.specs.Buffer.{ringAt, wordsOf};
-ghost use Rattle.looks.specs.Front.{lessHeld, lessWaiting, nthWords, waitWords};
+ghost use lib.ListN.{getD, length};
+ghost use Rattle.looks.specs.Buffer.{numsOf, ringAt, wordsOf};
+ghost use Rattle.looks.specs.Front.{frontWhite, lessHeld, lessWaiting, nthWords, waitWords};
 ghost use Rattle.looks.specs.Numbered.{eofWords, tokenAt};
 
 // A token as it stands in a list.
@@ -35,10 +34,18 @@ fn slot256(at: usize, i: usize) -> usize
 pub(crate) fn token_at(list: &[u32], i: u32) -> Words
     ensures { λ r. ⌜ wordsOf r ≡ tokenAt (now (list .entry)) i ⌝ }
 {
+    let at = wide(i) * 3;
+    if at + 2 < list.len() {
+        return Words {
+            kind: list[at],
+            start: list[at + 1],
+            end: list[at + 2],
+        };
+    }
     Words {
-        kind: kind_at(list, i),
-        start: start_at(list, i),
-        end: end_at(list, i),
+        kind: word(list, at),
+        start: word(list, at + 1),
+        end: word(list, at + 2),
     }
 }
 
@@ -54,19 +61,39 @@ pub(crate) fn eof_words(list: &[u32]) -> Words
 }
 
 // The held token n, or the end-of-file token.
-pub(crate) fn nth_words(nums: Nums, held: &[u32; 8], n: usize, list: &[u32]) -> Words
-    ensures { λ r. ⌜ wordsOf r ≡ nthWords (now (list .entry)) n nums (now (held .entry)) ⌝ }
+pub(crate) fn nth_words(nums: &[u32; 6], held: &[u32; 8], n: usize, list: &[u32]) -> Words
+    ensures { λ r. ⌜ wordsOf r ≡ nthWords (now (list .entry)) n (numsOf (now (nums .entry))) (now (held .entry)) ⌝ }
 {
-    if n < nums.held_len {
-        return token_at(list, held[slot8(nums.held_at, n)]);
+    if n < wide(nums[3]) {
+        return token_at(list, held[slot8(wide(nums[2]), n)]);
     }
     eof_words(list)
 }
 
-pub(crate) fn count_before(nums: Nums, counts: &[u32; 8], n: usize) -> usize
-    ensures { λ r. ⌜ r ≡ ringAt 8 (now (counts .entry)) (nums .«held_at») n ⌝ }
+// Its kind alone.
+pub(crate) fn nth_kind(nums: &[u32; 6], held: &[u32; 8], n: usize, list: &[u32]) -> u32
+    ensures { λ r. ⌜ r ≡ getD (nthWords (now (list .entry)) n (numsOf (now (nums .entry))) (now (held .entry))) 0 0 ⌝ }
 {
-    wide(counts[slot8(nums.held_at, n)])
+    if n < wide(nums[3]) {
+        return kind_at(list, held[slot8(wide(nums[2]), n)]);
+    }
+    67
+}
+
+pub(crate) fn count_before(nums: &[u32; 6], counts: &[u32; 8], n: usize) -> u32
+    ensures { λ r. ⌜ r ≡ ringAt 8 (now (counts .entry)) (numsOf (now (nums .entry)) .«held_at») n ⌝ }
+{
+    counts[slot8(wide(nums[2]), n)]
+}
+
+// What waits before the first held token, or all if none is held.
+pub(crate) fn white_now(nums: &[u32; 6], counts: &[u32; 8]) -> u32
+    ensures { λ r. ⌜ r ≡ frontWhite (numsOf (now (nums .entry))) (now (counts .entry)) ⌝ }
+{
+    if nums[3] == 0 {
+        return nums[5];
+    }
+    count_before(nums, counts, 0)
 }
 
 pub(crate) fn put_words(words: Words, out: &mut [u32], at: usize)
@@ -118,4 +145,27 @@ pub(crate) fn less_held(nums: Nums) -> Nums
     n.held_at = slot8(nums.held_at, 1);
     n.held_len = nums.held_len - 1;
     n
+}
+
+// The same where the numbers lie. They are read as a slice once: that tells the proof that there are six.
+pub(crate) fn take_waiting(nums: &mut [u32; 6], count: u32)
+    requires { ⌜ count ≤ numsOf (now nums) .«wait_len» ⌝ }
+    ensures { λ _. ⌜ numsOf (now (nums .exit)) ≡ lessWaiting count (numsOf (now (nums .entry))) ⌝ }
+{
+    let at = word(nums, 4);
+    let len = nums[5];
+    nums[4] = (at % 256 + count % 256) % 256;
+    nums[5] = len - count;
+}
+
+pub(crate) fn take_held(nums: &mut [u32; 6])
+    ensures { λ _. ⌜ numsOf (now (nums .exit)) ≡ lessHeld (numsOf (now (nums .entry))) ⌝ }
+{
+    let at = word(nums, 2);
+    let len = nums[3];
+    if len == 0 {
+        return;
+    }
+    nums[2] = (at % 8 + 1) % 8;
+    nums[3] = len - 1;
 }

@@ -1,5 +1,4 @@
-// What a call answers, and what the work hands back.
-use crate::state::Nums;
+// What a call answers.
 
 // Done: how many tokens were written to the front of the store; a kind, or 1 for yes and 0 for no; and a span. What a call does not give is 0.
 pub enum Looked {
@@ -12,10 +11,4 @@ pub enum Looked {
     Refused {
         number: u32,
     },
-}
-
-// The numbers afterwards, and the answer.
-pub struct After {
-    pub nums: Nums,
-    pub answer: Looked,
 }

@@ -1,50 +1,64 @@
-// The calls that write nothing: each fills, and shows what is held. The arrays are lent where they lie.
+// The calls that write nothing: each fills, and shows what is held. The state's arrays are lent where they lie.
 use crate::emit::count_before;
+use crate::emit::nth_kind;
 use crate::emit::nth_words;
-use crate::look::After;
+use crate::fill::one_more;
+use crate::look::Looked;
+use crate::quick::none;
 use crate::ready::filled_at;
-use crate::state::Nums;
-use crate::tell::done;
+use crate::ready::ready_at;
 use crate::tell::is_kind;
-use crate::tell::refuse;
+use token::refusal::WAITING_FULL;
 ghost use mathlib.Core.Path.{_≡_};
-ghost use Rattle.looks.specs.Buffer.{stateOf};
-ghost use Rattle.looks.specs.Calls.{fillBy, gluedBy, gluedKind, isEofBy, nthBy, nthTokenBy};
+ghost use Rattle.looks.specs.Buffer.{numsOf, stateOf};
+ghost use Rattle.looks.specs.Calls.{fillBy, fillRefusal, filledTo, gluedBy, gluedKind, isEofBy, nthBy, nthTokenBy};
 
 pub fn fill_at(
-    nums: Nums,
+    nums: &mut [u32; 6],
     held: &mut [u32; 8],
     counts: &mut [u32; 8],
     waiting: &mut [u32; 256],
     tested: u32,
     n: usize,
     list: &[u32],
-) -> After
-    ensures { λ r. ⌜ (stateOf (r .nums) (now (held .exit)) (now (counts .exit)) (now (waiting .exit)) ≡ fillBy tested (now (list .entry)) n (stateOf nums (now (held .entry)) (now (counts .entry)) (now (waiting .entry))) .state)
-        × (r .answer ≡ fillBy tested (now (list .entry)) n (stateOf nums (now (held .entry)) (now (counts .entry)) (now (waiting .entry))) .answer) ⌝ }
+) -> Looked
+    ensures { λ r. ⌜ (stateOf (numsOf (now (nums .exit))) (now (held .exit)) (now (counts .exit)) (now (waiting .exit)) ≡ fillBy tested (now (list .entry)) n (stateOf (numsOf (now (nums .entry))) (now (held .entry)) (now (counts .entry)) (now (waiting .entry))) .state)
+        × (r ≡ fillBy tested (now (list .entry)) n (stateOf (numsOf (now (nums .entry))) (now (held .entry)) (now (counts .entry)) (now (waiting .entry))) .answer) ⌝ }
 {
-    let f = filled_at(nums, held, counts, waiting, tested, n, list);
-    let m = f.nums;
-    if f.refusal != 0 {
-        return refuse(m, f.refusal);
+    let refusal = filled_at(
+        &mut *nums,
+        &mut *held,
+        &mut *counts,
+        &mut *waiting,
+        tested,
+        n,
+        list,
+    );
+    if refusal != 0 {
+        return Looked::Refused { number: refusal };
     }
-    done(m, 0, 0, 0, 0)
+    Looked::Done {
+        count: 0,
+        value: 0,
+        start: 0,
+        end: 0,
+    }
 }
 
 pub fn nth_at(
-    nums: Nums,
+    nums: &mut [u32; 6],
     held: &mut [u32; 8],
     counts: &mut [u32; 8],
     waiting: &mut [u32; 256],
     tested: u32,
     n: usize,
     list: &[u32],
-) -> After
-    ensures { λ r. ⌜ (stateOf (r .nums) (now (held .exit)) (now (counts .exit)) (now (waiting .exit)) ≡ nthBy tested (now (list .entry)) n (stateOf nums (now (held .entry)) (now (counts .entry)) (now (waiting .entry))) .state)
-        × (r .answer ≡ nthBy tested (now (list .entry)) n (stateOf nums (now (held .entry)) (now (counts .entry)) (now (waiting .entry))) .answer) ⌝ }
+) -> Looked
+    ensures { λ r. ⌜ (stateOf (numsOf (now (nums .exit))) (now (held .exit)) (now (counts .exit)) (now (waiting .exit)) ≡ nthBy tested (now (list .entry)) n (stateOf (numsOf (now (nums .entry))) (now (held .entry)) (now (counts .entry)) (now (waiting .entry))) .state)
+        × (r ≡ nthBy tested (now (list .entry)) n (stateOf (numsOf (now (nums .entry))) (now (held .entry)) (now (counts .entry)) (now (waiting .entry))) .answer) ⌝ }
 {
-    let f = filled_at(
-        nums,
+    let refusal = ready_at(
+        &mut *nums,
         &mut *held,
         &mut *counts,
         &mut *waiting,
@@ -52,42 +66,82 @@ pub fn nth_at(
         n,
         list,
     );
-    let m = f.nums;
-    if f.refusal != 0 {
-        return refuse(m, f.refusal);
+    if refusal != 0 {
+        return Looked::Refused { number: refusal };
     }
-    let words = nth_words(m, held, n, list);
-    done(m, 0, words.kind, 0, 0)
+    Looked::Done {
+        count: 0,
+        value: nth_kind(nums, held, n, list),
+        start: 0,
+        end: 0,
+    }
+}
+
+// Mostly none is held when a parser peeks.
+fn peek_ready(
+    nums: &mut [u32; 6],
+    held: &mut [u32; 8],
+    counts: &mut [u32; 8],
+    waiting: &mut [u32; 256],
+    tested: u32,
+    list: &[u32],
+) -> u32
+    ensures { λ r. ⌜ (r ≡ fillRefusal tested (now (list .entry)) 0 (stateOf (numsOf (now (nums .entry))) (now (held .entry)) (now (counts .entry)) (now (waiting .entry))))
+        × (stateOf (numsOf (now (nums .exit))) (now (held .exit)) (now (counts .exit)) (now (waiting .exit)) ≡ filledTo tested (now (list .entry)) 0 (stateOf (numsOf (now (nums .entry))) (now (held .entry)) (now (counts .entry)) (now (waiting .entry)))) ⌝ }
+{
+    if none(nums, tested, list) {
+        if one_more(nums, held, counts, waiting, list) {
+            return 0;
+        }
+        return WAITING_FULL;
+    }
+    ready_at(nums, held, counts, waiting, tested, 0, list)
 }
 
 pub fn peek_at(
-    nums: Nums,
+    nums: &mut [u32; 6],
     held: &mut [u32; 8],
     counts: &mut [u32; 8],
     waiting: &mut [u32; 256],
     tested: u32,
     list: &[u32],
-) -> After
-    ensures { λ r. ⌜ (stateOf (r .nums) (now (held .exit)) (now (counts .exit)) (now (waiting .exit)) ≡ nthBy tested (now (list .entry)) 0 (stateOf nums (now (held .entry)) (now (counts .entry)) (now (waiting .entry))) .state)
-        × (r .answer ≡ nthBy tested (now (list .entry)) 0 (stateOf nums (now (held .entry)) (now (counts .entry)) (now (waiting .entry))) .answer) ⌝ }
+) -> Looked
+    ensures { λ r. ⌜ (stateOf (numsOf (now (nums .exit))) (now (held .exit)) (now (counts .exit)) (now (waiting .exit)) ≡ nthBy tested (now (list .entry)) 0 (stateOf (numsOf (now (nums .entry))) (now (held .entry)) (now (counts .entry)) (now (waiting .entry))) .state)
+        × (r ≡ nthBy tested (now (list .entry)) 0 (stateOf (numsOf (now (nums .entry))) (now (held .entry)) (now (counts .entry)) (now (waiting .entry))) .answer) ⌝ }
 {
-    nth_at(nums, held, counts, waiting, tested, 0, list)
+    let refusal = peek_ready(
+        &mut *nums,
+        &mut *held,
+        &mut *counts,
+        &mut *waiting,
+        tested,
+        list,
+    );
+    if refusal != 0 {
+        return Looked::Refused { number: refusal };
+    }
+    Looked::Done {
+        count: 0,
+        value: nth_kind(nums, held, 0, list),
+        start: 0,
+        end: 0,
+    }
 }
 
 pub fn nth_token_at(
-    nums: Nums,
+    nums: &mut [u32; 6],
     held: &mut [u32; 8],
     counts: &mut [u32; 8],
     waiting: &mut [u32; 256],
     tested: u32,
     n: usize,
     list: &[u32],
-) -> After
-    ensures { λ r. ⌜ (stateOf (r .nums) (now (held .exit)) (now (counts .exit)) (now (waiting .exit)) ≡ nthTokenBy tested (now (list .entry)) n (stateOf nums (now (held .entry)) (now (counts .entry)) (now (waiting .entry))) .state)
-        × (r .answer ≡ nthTokenBy tested (now (list .entry)) n (stateOf nums (now (held .entry)) (now (counts .entry)) (now (waiting .entry))) .answer) ⌝ }
+) -> Looked
+    ensures { λ r. ⌜ (stateOf (numsOf (now (nums .exit))) (now (held .exit)) (now (counts .exit)) (now (waiting .exit)) ≡ nthTokenBy tested (now (list .entry)) n (stateOf (numsOf (now (nums .entry))) (now (held .entry)) (now (counts .entry)) (now (waiting .entry))) .state)
+        × (r ≡ nthTokenBy tested (now (list .entry)) n (stateOf (numsOf (now (nums .entry))) (now (held .entry)) (now (counts .entry)) (now (waiting .entry))) .answer) ⌝ }
 {
-    let f = filled_at(
-        nums,
+    let refusal = ready_at(
+        &mut *nums,
         &mut *held,
         &mut *counts,
         &mut *waiting,
@@ -95,38 +149,41 @@ pub fn nth_token_at(
         n,
         list,
     );
-    let m = f.nums;
-    if f.refusal != 0 {
-        return refuse(m, f.refusal);
+    if refusal != 0 {
+        return Looked::Refused { number: refusal };
     }
-    let words = nth_words(m, held, n, list);
-    done(m, 0, words.kind, words.start, words.end)
+    let words = nth_words(nums, held, n, list);
+    Looked::Done {
+        count: 0,
+        value: words.kind,
+        start: words.start,
+        end: words.end,
+    }
 }
 
-fn glued_kind(nums: Nums, held: &[u32; 8], counts: &[u32; 8], n: usize, list: &[u32]) -> u32
-    ensures { λ r. ⌜ r ≡ gluedKind (now (list .entry)) n nums (now (held .entry)) (now (counts .entry)) ⌝ }
+fn glued_kind(nums: &[u32; 6], held: &[u32; 8], counts: &[u32; 8], n: usize, list: &[u32]) -> u32
+    ensures { λ r. ⌜ r ≡ gluedKind (now (list .entry)) n (numsOf (now (nums .entry))) (now (held .entry)) (now (counts .entry)) ⌝ }
 {
     if count_before(nums, counts, n) != 0 {
         return 67;
     }
-    let words = nth_words(nums, held, n, list);
-    words.kind
+    nth_kind(nums, held, n, list)
 }
 
 pub fn glued_at(
-    nums: Nums,
+    nums: &mut [u32; 6],
     held: &mut [u32; 8],
     counts: &mut [u32; 8],
     waiting: &mut [u32; 256],
     tested: u32,
     n: usize,
     list: &[u32],
-) -> After
-    ensures { λ r. ⌜ (stateOf (r .nums) (now (held .exit)) (now (counts .exit)) (now (waiting .exit)) ≡ gluedBy tested (now (list .entry)) n (stateOf nums (now (held .entry)) (now (counts .entry)) (now (waiting .entry))) .state)
-        × (r .answer ≡ gluedBy tested (now (list .entry)) n (stateOf nums (now (held .entry)) (now (counts .entry)) (now (waiting .entry))) .answer) ⌝ }
+) -> Looked
+    ensures { λ r. ⌜ (stateOf (numsOf (now (nums .exit))) (now (held .exit)) (now (counts .exit)) (now (waiting .exit)) ≡ gluedBy tested (now (list .entry)) n (stateOf (numsOf (now (nums .entry))) (now (held .entry)) (now (counts .entry)) (now (waiting .entry))) .state)
+        × (r ≡ gluedBy tested (now (list .entry)) n (stateOf (numsOf (now (nums .entry))) (now (held .entry)) (now (counts .entry)) (now (waiting .entry))) .answer) ⌝ }
 {
-    let f = filled_at(
-        nums,
+    let refusal = ready_at(
+        &mut *nums,
         &mut *held,
         &mut *counts,
         &mut *waiting,
@@ -134,26 +191,30 @@ pub fn glued_at(
         n,
         list,
     );
-    let m = f.nums;
-    if f.refusal != 0 {
-        return refuse(m, f.refusal);
+    if refusal != 0 {
+        return Looked::Refused { number: refusal };
     }
-    done(m, 0, glued_kind(m, held, counts, n, list), 0, 0)
+    Looked::Done {
+        count: 0,
+        value: glued_kind(nums, held, counts, n, list),
+        start: 0,
+        end: 0,
+    }
 }
 
 pub fn is_eof_at(
-    nums: Nums,
+    nums: &mut [u32; 6],
     held: &mut [u32; 8],
     counts: &mut [u32; 8],
     waiting: &mut [u32; 256],
     tested: u32,
     list: &[u32],
-) -> After
-    ensures { λ r. ⌜ (stateOf (r .nums) (now (held .exit)) (now (counts .exit)) (now (waiting .exit)) ≡ isEofBy tested (now (list .entry)) (stateOf nums (now (held .entry)) (now (counts .entry)) (now (waiting .entry))) .state)
-        × (r .answer ≡ isEofBy tested (now (list .entry)) (stateOf nums (now (held .entry)) (now (counts .entry)) (now (waiting .entry))) .answer) ⌝ }
+) -> Looked
+    ensures { λ r. ⌜ (stateOf (numsOf (now (nums .exit))) (now (held .exit)) (now (counts .exit)) (now (waiting .exit)) ≡ isEofBy tested (now (list .entry)) (stateOf (numsOf (now (nums .entry))) (now (held .entry)) (now (counts .entry)) (now (waiting .entry))) .state)
+        × (r ≡ isEofBy tested (now (list .entry)) (stateOf (numsOf (now (nums .entry))) (now (held .entry)) (now (counts .entry)) (now (waiting .entry))) .answer) ⌝ }
 {
-    let f = filled_at(
-        nums,
+    let refusal = ready_at(
+        &mut *nums,
         &mut *held,
         &mut *counts,
         &mut *waiting,
@@ -161,10 +222,13 @@ pub fn is_eof_at(
         0,
         list,
     );
-    let m = f.nums;
-    if f.refusal != 0 {
-        return refuse(m, f.refusal);
+    if refusal != 0 {
+        return Looked::Refused { number: refusal };
     }
-    let words = nth_words(m, held, 0, list);
-    done(m, 0, is_kind(words.kind, 67), 0, 0)
+    Looked::Done {
+        count: 0,
+        value: is_kind(nth_kind(nums, held, 0, list), 67),
+        start: 0,
+        end: 0,
+    }
 }

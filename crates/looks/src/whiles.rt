@@ -2,32 +2,35 @@
 use crate::emit::count_before;
 use crate::emit::less_held;
 use crate::emit::less_waiting;
+use crate::emit::nth_kind;
 use crate::emit::nth_words;
 use crate::fill::gather_to;
 use crate::fill::gathers_at;
-use crate::front::Front;
 use crate::front::emit_front;
 use crate::front::front_of;
 use crate::list::count_of;
 use crate::list::next_dark;
-use crate::look::After;
+use crate::list::wide;
+use crate::look::Looked;
+use crate::quick::some;
 use crate::ready::lacks;
 use crate::sound::sound;
 use crate::state::Nums;
-use crate::tell::done;
-use crate::tell::refuse;
+use crate::state::nums_of;
 use token::refusal::FAULTY;
 use token::refusal::STORE_SHORT;
 use token::refusal::WAITING_FULL;
-ghost use Prim.Native.Nat.{_*_, _≤_};
+ghost use Prim.Native.Nat.{_-_, _*_, _≤_};
 ghost use mathlib.Core.Path.{_≡_};
+ghost use mathlib.Core.Bool.{not};
 ghost use lib.Dec.{ltb, eqb};
 ghost use lib.Seq.{sets};
-ghost use lib.ListN.{length};
-ghost use Rattle.laws.specs.Bools.{pick};
-ghost use Rattle.looks.specs.Buffer.{Roomy, stateOf};
-ghost use Rattle.looks.specs.Front.{yes};
+ghost use lib.ListN.{getD, length};
+ghost use Rattle.laws.specs.Bools.{both, pick};
+ghost use Rattle.looks.specs.Buffer.{Gatherable, Roomy, fill, numsOf, stateOf};
+ghost use Rattle.looks.specs.Front.{nthWords, yes};
 ghost use Rattle.looks.specs.Numbered.{tokenCount};
+ghost use Rattle.looks.specs.Sound.{someBy};
 ghost use Rattle.looks.specs.While.{Plannable, Planned, bumpWhileBy, fillNums, goesOn, whilePlan, whileRun};
 
 // The refusal, or 0, and how many tokens are to be emitted.
@@ -85,55 +88,53 @@ fn plan_while(nums: Nums, held: &[u32], counts: &[u32], kind: u32, list: &[u32])
     }
 }
 
-fn goes_on(nums: Nums, held: &[u32; 8], kind: u32, list: &[u32]) -> bool
-    ensures { λ r. ⌜ r ≡ goesOn (now (list .entry)) kind nums (now (held .entry)) ⌝ }
+fn goes_on(nums: &[u32; 6], held: &[u32; 8], kind: u32, list: &[u32]) -> bool
+    ensures { λ r. ⌜ r ≡ goesOn (now (list .entry)) kind (numsOf (now (nums .entry))) (now (held .entry)) ⌝ }
 {
-    if nums.held_len == 0 {
+    if nums[3] == 0 {
         return false;
     }
-    let words = nth_words(nums, held, 0, list);
-    words.kind == kind
+    nth_kind(nums, held, 0, list) == kind
+}
+
+fn refill(
+    nums: &mut [u32; 6],
+    held: &mut [u32; 8],
+    counts: &mut [u32; 8],
+    waiting: &mut [u32; 256],
+    list: &[u32],
+)
+    requires { ⌜ Gatherable (now list) (1 - numsOf (now nums) .«held_len») (numsOf (now nums)) ⌝ }
+    ensures { λ _. ⌜ stateOf (numsOf (now (nums .exit))) (now (held .exit)) (now (counts .exit)) (now (waiting .exit)) ≡ fill (now (list .entry)) 0 (stateOf (numsOf (now (nums .entry))) (now (held .entry)) (now (counts .entry)) (now (waiting .entry))) ⌝ }
+{
+    let m = nums_of(nums);
+    gathers_at(nums, held, counts, waiting, lacks(m, 1), list);
 }
 
 fn run_while(
-    nums: Nums,
+    nums: &mut [u32; 6],
     held: &mut [u32; 8],
     counts: &mut [u32; 8],
     waiting: &mut [u32; 256],
     kind: u32,
     list: &[u32],
     out: &mut [u32],
-) -> Nums
-    requires { ⌜ Plannable (now list) nums (now held) (now counts)
-        × (whilePlan (now list) kind (stateOf nums (now held) (now counts) (now waiting)) .refusal ≡ 0)
-        × (whilePlan (now list) kind (stateOf nums (now held) (now counts) (now waiting)) .count * 3 ≤ length (now out)) ⌝ }
-    ensures { λ r. ⌜ (stateOf r (now (held .exit)) (now (counts .exit)) (now (waiting .exit)) ≡ whileRun (now (list .entry)) kind (stateOf nums (now (held .entry)) (now (counts .entry)) (now (waiting .entry))) .state)
-        × (now (out .exit) ≡ sets (now (out .entry)) 0 (whileRun (now (list .entry)) kind (stateOf nums (now (held .entry)) (now (counts .entry)) (now (waiting .entry))) .written)) ⌝ }
+)
+    requires { ⌜ Plannable (now list) (numsOf (now nums)) (now held) (now counts)
+        × (whilePlan (now list) kind (stateOf (numsOf (now nums)) (now held) (now counts) (now waiting)) .refusal ≡ 0)
+        × (whilePlan (now list) kind (stateOf (numsOf (now nums)) (now held) (now counts) (now waiting)) .count * 3 ≤ length (now out)) ⌝ }
+    ensures { λ _. ⌜ (stateOf (numsOf (now (nums .exit))) (now (held .exit)) (now (counts .exit)) (now (waiting .exit)) ≡ whileRun (now (list .entry)) kind (stateOf (numsOf (now (nums .entry))) (now (held .entry)) (now (counts .entry)) (now (waiting .entry))) .state)
+        × (now (out .exit) ≡ sets (now (out .entry)) 0 (whileRun (now (list .entry)) kind (stateOf (numsOf (now (nums .entry))) (now (held .entry)) (now (counts .entry)) (now (waiting .entry))) .written)) ⌝ }
 {
-    let mut m = gathers_at(
-        nums,
-        &mut *held,
-        &mut *counts,
-        &mut *waiting,
-        lacks(nums, 1),
-        list,
-    );
+    refill(&mut *nums, &mut *held, &mut *counts, &mut *waiting, list);
     let mut at: usize = 0;
-    while goes_on(m, held, kind, list) {
-        let white = count_before(m, counts, 0);
-        let words = nth_words(m, held, 0, list);
-        let next = emit_front(m, Front { white, words }, waiting, list, &mut *out, at);
-        at = at + white * 3 + 3;
-        m = gathers_at(
-            next,
-            &mut *held,
-            &mut *counts,
-            &mut *waiting,
-            lacks(next, 1),
-            list,
-        );
+    while goes_on(nums, held, kind, list) {
+        let white = count_before(nums, counts, 0);
+        let words = nth_words(nums, held, 0, list);
+        emit_front(&mut *nums, white, words, waiting, list, &mut *out, at);
+        at = at + wide(white) * 3 + 3;
+        refill(&mut *nums, &mut *held, &mut *counts, &mut *waiting, list);
     }
-    m
 }
 
 fn is_some(count: usize) -> u32
@@ -145,8 +146,25 @@ fn is_some(count: usize) -> u32
     0
 }
 
-pub fn bump_while_at(
-    nums: Nums,
+// Whether a token is held and the first is of another kind: then nothing is done.
+fn other(
+    nums: &[u32; 6],
+    held: &[u32; 8],
+    counts: &[u32; 8],
+    tested: u32,
+    kind: u32,
+    list: &[u32],
+) -> bool
+    ensures { λ r. ⌜ r ≡ both (someBy tested (now (list .entry)) (numsOf (now (nums .entry))) (now (counts .entry))) (not (eqb (getD (nthWords (now (list .entry)) 0 (numsOf (now (nums .entry))) (now (held .entry))) 0 0) kind)) ⌝ }
+{
+    if !some(nums, counts, tested, list) {
+        return false;
+    }
+    nth_kind(nums, held, 0, list) != kind
+}
+
+fn while_slow(
+    nums: &mut [u32; 6],
     held: &mut [u32; 8],
     counts: &mut [u32; 8],
     waiting: &mut [u32; 256],
@@ -154,22 +172,55 @@ pub fn bump_while_at(
     kind: u32,
     list: &[u32],
     out: &mut [u32],
-) -> After
-    ensures { λ r. ⌜ (stateOf (r .nums) (now (held .exit)) (now (counts .exit)) (now (waiting .exit)) ≡ bumpWhileBy tested (now (list .entry)) kind (length (now (out .entry))) (stateOf nums (now (held .entry)) (now (counts .entry)) (now (waiting .entry))) .state)
-        × (r .answer ≡ bumpWhileBy tested (now (list .entry)) kind (length (now (out .entry))) (stateOf nums (now (held .entry)) (now (counts .entry)) (now (waiting .entry))) .answer)
-        × (now (out .exit) ≡ sets (now (out .entry)) 0 (bumpWhileBy tested (now (list .entry)) kind (length (now (out .entry))) (stateOf nums (now (held .entry)) (now (counts .entry)) (now (waiting .entry))) .written)) ⌝ }
+) -> Looked
+    ensures { λ r. ⌜ (stateOf (numsOf (now (nums .exit))) (now (held .exit)) (now (counts .exit)) (now (waiting .exit)) ≡ bumpWhileBy tested (now (list .entry)) kind (length (now (out .entry))) (stateOf (numsOf (now (nums .entry))) (now (held .entry)) (now (counts .entry)) (now (waiting .entry))) .state)
+        × (r ≡ bumpWhileBy tested (now (list .entry)) kind (length (now (out .entry))) (stateOf (numsOf (now (nums .entry))) (now (held .entry)) (now (counts .entry)) (now (waiting .entry))) .answer)
+        × (now (out .exit) ≡ sets (now (out .entry)) 0 (bumpWhileBy tested (now (list .entry)) kind (length (now (out .entry))) (stateOf (numsOf (now (nums .entry))) (now (held .entry)) (now (counts .entry)) (now (waiting .entry))) .written)) ⌝ }
 {
-    if !sound(nums, held, counts, waiting, tested, list) {
-        return refuse(nums, FAULTY);
+    let m = nums_of(nums);
+    if !sound(m, held, counts, waiting, tested, list) {
+        return Looked::Refused { number: FAULTY };
     }
-    let p = plan_while(nums, held, counts, kind, list);
-    if p.refusal != 0 {
-        return refuse(nums, p.refusal);
-    }
+    let p = plan_while(m, held, counts, kind, list);
     let count = p.count;
-    if out.len() / 3 < count {
-        return refuse(nums, STORE_SHORT);
+    if p.refusal != 0 {
+        return Looked::Refused { number: p.refusal };
     }
-    let m = run_while(nums, held, counts, waiting, kind, list, out);
-    done(m, count, is_some(count), 0, 0)
+    if out.len() / 3 < count {
+        return Looked::Refused {
+            number: STORE_SHORT,
+        };
+    }
+    run_while(nums, held, counts, waiting, kind, list, out);
+    Looked::Done {
+        count,
+        value: is_some(count),
+        start: 0,
+        end: 0,
+    }
+}
+
+pub fn bump_while_at(
+    nums: &mut [u32; 6],
+    held: &mut [u32; 8],
+    counts: &mut [u32; 8],
+    waiting: &mut [u32; 256],
+    tested: u32,
+    kind: u32,
+    list: &[u32],
+    out: &mut [u32],
+) -> Looked
+    ensures { λ r. ⌜ (stateOf (numsOf (now (nums .exit))) (now (held .exit)) (now (counts .exit)) (now (waiting .exit)) ≡ bumpWhileBy tested (now (list .entry)) kind (length (now (out .entry))) (stateOf (numsOf (now (nums .entry))) (now (held .entry)) (now (counts .entry)) (now (waiting .entry))) .state)
+        × (r ≡ bumpWhileBy tested (now (list .entry)) kind (length (now (out .entry))) (stateOf (numsOf (now (nums .entry))) (now (held .entry)) (now (counts .entry)) (now (waiting .entry))) .answer)
+        × (now (out .exit) ≡ sets (now (out .entry)) 0 (bumpWhileBy tested (now (list .entry)) kind (length (now (out .entry))) (stateOf (numsOf (now (nums .entry))) (now (held .entry)) (now (counts .entry)) (now (waiting .entry))) .written)) ⌝ }
+{
+    if other(nums, held, counts, tested, kind, list) {
+        return Looked::Done {
+            count: 0,
+            value: 0,
+            start: 0,
+            end: 0,
+        };
+    }
+    while_slow(nums, held, counts, waiting, tested, kind, list, out)
 }

@@ -12,7 +12,7 @@ use Rattle.sound.specs.Source.{sourceTest}
 
 -- goes up with every change of a call, of a number or of what is promised
 abbrev pub version : ℕ
-version = 2
+version = 3
 
 abbrev pub testTells : List ℕ → Told
 testTells s = ofTested (sourceTest s)

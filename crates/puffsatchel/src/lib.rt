@@ -4,7 +4,7 @@ use answers::tell;
 ghost use mathlib.Core.Path.{_≡_};
 ghost use Rattle.puffsatchel.specs.Calls.{listLeaves, listTells, nextTells, outlineLeaves, outlineTells, readTells, testTells, version};
 
-const VERSION: u32 = 2;
+const VERSION: u32 = 3;
 
 #[no_mangle]
 pub extern "C" fn puffsatchel_version() -> u32

@@ -1,13 +1,11 @@
 // The calls of a script, two bytes each: a code and an argument. A code above 11 is taken for 11.
 use crate::lines::put_looked;
 use looks::Looked;
-use looks::Nums;
 use looks::emits::advance_at;
 use looks::emits::array_at;
 use looks::emits::bump_at;
 use looks::emits::bump_if_at;
 use looks::emits::flush_at;
-use looks::look::After;
 use looks::show::fill_at;
 use looks::show::glued_at;
 use looks::show::is_eof_at;
@@ -16,30 +14,15 @@ use looks::show::nth_token_at;
 use looks::show::peek_at;
 use looks::whiles::bump_while_at;
 
-fn fresh(keep: bool) -> Nums {
-    let mut nums = Nums {
-        next: 0,
-        keep: 0,
-        held_at: 0,
-        held_len: 0,
-        wait_at: 0,
-        wait_len: 0,
-    };
-    if keep {
-        nums.keep = 1;
-    }
-    nums
-}
-
 fn show(
-    nums: Nums,
+    nums: &mut [u32; 6],
     held: &mut [u32; 8],
     counts: &mut [u32; 8],
     waiting: &mut [u32; 256],
     code: u8,
     n: usize,
     list: &[u32],
-) -> After {
+) -> Looked {
     match code {
         0 => fill_at(nums, held, counts, waiting, 0, n, list),
         1 => peek_at(nums, held, counts, waiting, 0, list),
@@ -51,7 +34,7 @@ fn show(
 }
 
 fn emit(
-    nums: Nums,
+    nums: &mut [u32; 6],
     held: &mut [u32; 8],
     counts: &mut [u32; 8],
     waiting: &mut [u32; 256],
@@ -59,7 +42,7 @@ fn emit(
     n: u8,
     list: &[u32],
     written: &mut [u32],
-) -> After {
+) -> Looked {
     match code {
         5 => flush_at(nums, held, counts, waiting, 0, list, written),
         6 => bump_at(nums, held, counts, waiting, 0, list, written),
@@ -82,7 +65,7 @@ fn is_outside(code: u8, n: u8) -> bool {
 }
 
 fn call(
-    nums: Nums,
+    nums: &mut [u32; 6],
     held: &mut [u32; 8],
     counts: &mut [u32; 8],
     waiting: &mut [u32; 256],
@@ -90,12 +73,9 @@ fn call(
     n: u8,
     list: &[u32],
     written: &mut [u32],
-) -> After {
+) -> Looked {
     if is_outside(code, n) {
-        return After {
-            nums,
-            answer: Looked::Refused { number: 33 },
-        };
+        return Looked::Refused { number: 33 };
     }
     match code {
         5..=10 => emit(nums, held, counts, waiting, code, n, list, written),
@@ -119,7 +99,10 @@ pub fn put_calls(
     out: &mut [u8],
     begun: usize,
 ) -> usize {
-    let mut nums = fresh(keep);
+    let mut nums = [0u32; 6];
+    if keep {
+        nums[1] = 1;
+    }
     let mut held = [0u32; 8];
     let mut counts = [0u32; 8];
     let mut waiting = [0u32; 256];
@@ -128,8 +111,8 @@ pub fn put_calls(
     while 1 < script.len() - i {
         let code = script[i];
         let n = script[i + 1];
-        let after = call(
-            nums,
+        let answer = call(
+            &mut nums,
             &mut held,
             &mut counts,
             &mut waiting,
@@ -138,8 +121,6 @@ pub fn put_calls(
             list,
             written,
         );
-        nums = after.nums;
-        let answer = after.answer;
         put = put_looked(out, put, code, answer, written);
         if !is_done(answer) {
             return put;

@@ -3,7 +3,7 @@
 use core::mem::size_of;
 
 // puffsatchel.h does not compile either where the state has another size.
-const _: () = assert!(size_of::<Answer>() == 40 && size_of::<Ahead>() == 1128);
+const _: () = assert!(size_of::<Answer>() == 40 && size_of::<Ahead>() == 1112);
 
 /// What a call answers beside its result.
 #[repr(C)]
@@ -22,10 +22,10 @@ pub(crate) struct Answer {
 pub(crate) struct Ahead {
     next: u32,
     keep: u32,
-    held_at: usize,
-    held_len: usize,
-    wait_at: usize,
-    wait_len: usize,
+    held_at: u32,
+    held_len: u32,
+    wait_at: u32,
+    wait_len: u32,
     held: [u32; 8],
     counts: [u32; 8],
     waiting: [u32; 256],

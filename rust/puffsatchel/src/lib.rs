@@ -55,7 +55,7 @@ pub const BYTES_PER_RECORD: usize = 11;
 pub const LARGEST_STORED: usize = BYTES_PER_RECORD * LARGEST_SOURCE;
 
 /// The version of the face that this wrapper is written for.
-pub const VERSION: u32 = 2;
+pub const VERSION: u32 = 3;
 
 /// The version of the archive that is linked. Where it is not [`VERSION`], build wrapper and archive from one commit.
 #[must_use]

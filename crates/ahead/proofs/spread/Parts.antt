@@ -22,20 +22,11 @@ use denote.Steps.{owned}
 use denote.Struct.Field.{u32-field}
 use denote.Struct.Steps.{spelt}
 use denote.Struct.Laws as LL
-use denote.Enum.Laws as EL
-use Rattle.looks.specs.declared.state.Nums.{Nums}
-use Rattle.looks.specs.declared.look.After.{After}
 use Rattle.ahead.specs.declared.Ahead.{Ahead}
-use Rattle.looks.proofs.state.Nums as P
-use Rattle.looks.proofs.state.Nums.Laws as P′
-use Rattle.looks.proofs.look.Looked as N
-use Rattle.looks.proofs.look.Looked.Laws as N′
-use Rattle.looks.proofs.look.After as D
-use Rattle.looks.proofs.look.After.Laws as D′
 use Rattle.ahead.proofs.Ahead as T
 use Rattle.ahead.proofs.Ahead.Laws as T′
 
-abbrev pub ahead : Nums → List ℕ → List ℕ → List ℕ → Ahead
+abbrev pub ahead : List ℕ → List ℕ → List ℕ → List ℕ → Ahead
 ahead n x y z = record { nums = n; held = x; counts = y; waiting = z }
 
 id-map : (xs : List ℕ) → map (λ (v : ℕ). v) xs ≡ xs
@@ -52,24 +43,17 @@ array-si : (n : ℕ) (xs : List ℕ) → Is (Array u32 n) xs (aval xs ∷ []) �
 array-si n xs is = subst (λ (ys : List ℕ). Is (Array u32 n) ys (aval ys ∷ [])) (sym (id-map xs)) is
 
 -- a state's facts, from its fields'
-pub ahead-is : (n : Nums) (x y z : List ℕ) → Is P.the-row n (LL.vals P.the-type P′.the-laws n) → Is (Array u32 8) x (aval x ∷ []) → Is (Array u32 8) y (aval y ∷ []) → Is (Array u32 256) z (aval z ∷ []) → Is T.the-row (ahead n x y z) (T′.lowered (ahead n x y z) ∷ [])
+pub ahead-is : (n x y z : List ℕ) → Is (Array u32 6) n (aval n ∷ []) → Is (Array u32 8) x (aval x ∷ []) → Is (Array u32 8) y (aval y ∷ []) → Is (Array u32 256) z (aval z ∷ []) → Is T.the-row (ahead n x y z) (T′.lowered (ahead n x y z) ∷ [])
 ahead-is n x y z i₀ i₁ i₂ i₃ =
-    let is = LL.owes T.the-type T′.the-laws (ahead n x y z) (i₀, (array-si 8 x i₁, (array-si 8 y i₂, (array-si 256 z i₃, tt)))) in
+    let is = LL.owes T.the-type T′.the-laws (ahead n x y z) (array-si 6 n i₀, (array-si 8 x i₁, (array-si 8 y i₂, (array-si 256 z i₃, tt)))) in
     subst (λ (vs : List Val). Is T.the-row (ahead n x y z) vs) (T′.lowers .val-is (ahead n x y z) _ is) is
-
--- what the parts of g's result are, from the whole
-pub nums-is : (d : After) (w : Val) → Is D.the-row d (w ∷ []) → Is P.the-row (d .nums) (LL.vals P.the-type P′.the-laws (d .nums))
-nums-is d w is = LL.owed D.the-type D′.the-laws d _ is .0
-
-pub answer-is : (d : After) (w : Val) → Is D.the-row d (w ∷ []) → Is N.the-row (d .answer) (EL.vals N.the-type N′.the-laws (d .answer))
-answer-is d w is = LL.owed D.the-type D′.the-laws d _ is .1 .0
 
 -- the fields' types, and their machine values
 abbrev τs : Tys
-τs = tcons P′.mir (tcons (tyArray (tyInt w32) 8) (tcons (tyArray (tyInt w32) 8) (tcons (tyArray (tyInt w32) 256) tnil)))
+τs = tcons (tyArray (tyInt w32) 6) (tcons (tyArray (tyInt w32) 8) (tcons (tyArray (tyInt w32) 8) (tcons (tyArray (tyInt w32) 256) tnil)))
 
 abbrev cells : Ahead → Vals
-cells s = vcons (LL.val P.the-type P′.the-laws (s .nums)) (vcons (aval (s .held)) (vcons (aval (s .counts)) (vcons (aval (s .waiting)) vnil)))
+cells s = vcons (aval (s .nums)) (vcons (aval (s .held)) (vcons (aval (s .counts)) (vcons (aval (s .waiting)) vnil)))
 
 module _ {M : Type 1} (𝓤 : URA M) (H : Heap 𝓤) (A : Atoms 𝓤) (W : Given 𝓤 H A) (b o : ℕ) where
   -- an array's cell, as what can be lent, and back
@@ -91,7 +75,7 @@ module _ {M : Type 1} (𝓤 : URA M) (H : Heap 𝓤) (A : Atoms 𝓤) (W : Given
   Way = all 𝓤 (λ (us : Vals). wand 𝓤 (fieldsAt 𝓤 H fullShare τs 0 b o us) (H .at fullShare T′.mir b o (vstruct us)))
 
   abbrev pub Cells : Ahead → Item 𝓤
-  Cells s = ‵ (fat fullShare P′.mir b (o + 0) (LL.val P.the-type P′.the-laws (s .nums))) ⊛ ‵ (fat fullShare (tyArray (tyInt w32) 8) b (o + 40) (aval (s .held))) ⊛ ‵ (fat fullShare (tyArray (tyInt w32) 8) b (o + 72) (aval (s .counts))) ⊛ ‵ (fat fullShare (tyArray (tyInt w32) 256) b (o + 104) (aval (s .waiting))) ⊛ ‵ ftrue
+  Cells s = ‵ (fat fullShare (tyArray (tyInt w32) 6) b (o + 0) (aval (s .nums))) ⊛ ‵ (fat fullShare (tyArray (tyInt w32) 8) b (o + 24) (aval (s .held))) ⊛ ‵ (fat fullShare (tyArray (tyInt w32) 8) b (o + 56) (aval (s .counts))) ⊛ ‵ (fat fullShare (tyArray (tyInt w32) 256) b (o + 88) (aval (s .waiting))) ⊛ ‵ ftrue
 
   pub apart : (s : Ahead) → ent 𝓤 (H .at fullShare T′.mir b o (T′.lowered s)) (sep 𝓤 (mean 𝓤 H A (Cells s)) Way)
   apart s = W .laws .at-fields fullShare _ τs b o (cells s)

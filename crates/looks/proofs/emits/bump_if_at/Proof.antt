@@ -1,86 +1,70 @@
 use Prim.Native.Nat.{ℕ, _+_}
-use mathlib.Core.Path.{refl, sym, ap, ap₂, _∙_}
+use mathlib.Core.Path.{refl, sym, ap, _∙_}
 use mathlib.Core.List.{List}
 use native.Mathlib.Omega.{arith}
 use borrow.Author.Needs.{needs}
 use lib.Dec.{eqb}
 use lib.Seq.{sets}
 use lib.ListN.{getD, length}
-use Rattle.laws.specs.Bools.{pick}
-use Rattle.looks.proofs.Answers.{ready-for, refusal-none, sound-bounded}
-use Rattle.looks.proofs.Turns.{front-state, front-words, parts, parts-of, perhaps, perhaps-length, perhaps-none, perhaps-some, sound-sum, stored-done, stored-short, unless-no, unless-yes, white-few}
-use Rattle.looks.specs.Buffer.{State, fill, gathers, stateOf}
-use Rattle.looks.specs.Calls.{bumpIfBy, storedBy}
+use borrow.Author.Tests.{eq-eqb, ne-eqb}
+use Rattle.looks.proofs.Needed.{perhaps-need, room-filled, room-kept, room-no, room-none, room-yes}
+use Rattle.looks.proofs.Turns.{front-state, front-words, parts-of, perhaps}
+use Rattle.looks.specs.Buffer.{State, fill, numsOf, stateOf}
+use Rattle.looks.specs.Calls.{bumpIfBy, needBy}
 use Rattle.looks.specs.Front.{nthOf, whiteOf}
 use Rattle.looks.specs.declared.look.Looked.the-variants.{Done}
 use Rattle.looks.proofs.emits.bump_if_at.Statement.{statement}
 use Rattle.looks.proofs.emits.bump_if_at.Tie as tie
 
-fill-refusal-requires : tie.Need-fill-refusal-requires
-fill-refusal-requires c κs = search needs
-
-refuse-requires : tie.Need-refuse-requires
-refuse-requires c κs = search needs
+bump-if-ready-requires : tie.Need-bump-if-ready-requires
+bump-if-ready-requires c κs = search needs
 
 returns : tie.Need-returns
-unfolding bumpIfBy
-returns c = rw (c .refuse .ensures) (parts (c .before .before .before .before .before .before .before .before .args .out .now) _ _ (unless-no _ (stateOf (c .before .before .before .before .before .before .before .before .args .nums) (c .before .before .before .before .before .before .before .before .args .held .now) (c .before .before .before .before .before .before .before .before .args .counts .now) (c .before .before .before .before .before .before .before .before .args .waiting .now)) _ (c .before .before .fill-refusal .ensures) (storedBy (length (c .before .before .before .before .before .before .before .before .args .out .now)) (stateOf (c .before .before .before .before .before .before .before .before .args .nums) (c .before .before .before .before .before .before .before .before .args .held .now) (c .before .before .before .before .before .before .before .before .args .counts .now) (c .before .before .before .before .before .before .before .before .args .waiting .now)) (perhaps (c .before .before .before .before .before .before .before .before .args .list .now) (Done (whiteOf (fill (c .before .before .before .before .before .before .before .before .args .list .now) 0 (stateOf (c .before .before .before .before .before .before .before .before .args .nums) (c .before .before .before .before .before .before .before .before .args .held .now) (c .before .before .before .before .before .before .before .before .args .counts .now) (c .before .before .before .before .before .before .before .before .args .waiting .now))) + 1) 1 0 0) (fill (c .before .before .before .before .before .before .before .before .args .list .now) 0 (stateOf (c .before .before .before .before .before .before .before .before .args .nums) (c .before .before .before .before .before .before .before .before .args .held .now) (c .before .before .before .before .before .before .before .before .args .counts .now) (c .before .before .before .before .before .before .before .before .args .waiting .now))) (eqb (getD (nthOf (c .before .before .before .before .before .before .before .before .args .list .now) 0 (fill (c .before .before .before .before .before .before .before .before .args .list .now) 0 (stateOf (c .before .before .before .before .before .before .before .before .args .nums) (c .before .before .before .before .before .before .before .before .args .held .now) (c .before .before .before .before .before .before .before .before .args .counts .now) (c .before .before .before .before .before .before .before .before .args .waiting .now)))) 0 0) (c .before .before .before .before .before .before .before .before .args .kind)))) (c .before .if1 .taken)))
+unfolding bumpIfBy needBy
+returns c = parts-of (c .before .before .before .before .before .before .before .before .args .out .now) _ _ (room-no (c .before .before .before .before .before .before .before .before .args .tested) (c .before .before .before .before .before .before .before .before .args .list .now) 2 (c .before .before .before .before .before .before .before .before .args .kind) (length (c .before .before .before .before .before .before .before .before .args .out .now)) (stateOf (numsOf (c .before .before .before .before .before .before .before .before .args .nums .now)) (c .before .before .before .before .before .before .before .before .args .held .now) (c .before .before .before .before .before .before .before .before .args .counts .now) (c .before .before .before .before .before .before .before .before .args .waiting .now)) _ (c .before .bump-if-ready .ensures .0) (perhaps (c .before .before .before .before .before .before .before .before .args .list .now) (Done (whiteOf (fill (c .before .before .before .before .before .before .before .before .args .list .now) 0 (stateOf (numsOf (c .before .before .before .before .before .before .before .before .args .nums .now)) (c .before .before .before .before .before .before .before .before .args .held .now) (c .before .before .before .before .before .before .before .before .args .counts .now) (c .before .before .before .before .before .before .before .before .args .waiting .now))) + 1) 1 0 0) (fill (c .before .before .before .before .before .before .before .before .args .list .now) 0 (stateOf (numsOf (c .before .before .before .before .before .before .before .before .args .nums .now)) (c .before .before .before .before .before .before .before .before .args .held .now) (c .before .before .before .before .before .before .before .before .args .counts .now) (c .before .before .before .before .before .before .before .before .args .waiting .now))) (eqb (getD (nthOf (c .before .before .before .before .before .before .before .before .args .list .now) 0 (fill (c .before .before .before .before .before .before .before .before .args .list .now) 0 (stateOf (numsOf (c .before .before .before .before .before .before .before .before .args .nums .now)) (c .before .before .before .before .before .before .before .before .args .held .now) (c .before .before .before .before .before .before .before .before .args .counts .now) (c .before .before .before .before .before .before .before .before .args .waiting .now)))) 0 0) (c .before .before .before .before .before .before .before .before .args .kind))) (perhaps-need (c .before .before .before .before .before .before .before .before .args .list .now) (Done (whiteOf (fill (c .before .before .before .before .before .before .before .before .args .list .now) 0 (stateOf (numsOf (c .before .before .before .before .before .before .before .before .args .nums .now)) (c .before .before .before .before .before .before .before .before .args .held .now) (c .before .before .before .before .before .before .before .before .args .counts .now) (c .before .before .before .before .before .before .before .before .args .waiting .now))) + 1) 1 0 0) (fill (c .before .before .before .before .before .before .before .before .args .list .now) 0 (stateOf (numsOf (c .before .before .before .before .before .before .before .before .args .nums .now)) (c .before .before .before .before .before .before .before .before .args .held .now) (c .before .before .before .before .before .before .before .before .args .counts .now) (c .before .before .before .before .before .before .before .before .args .waiting .now))) (eqb (getD (nthOf (c .before .before .before .before .before .before .before .before .args .list .now) 0 (fill (c .before .before .before .before .before .before .before .before .args .list .now) 0 (stateOf (numsOf (c .before .before .before .before .before .before .before .before .args .nums .now)) (c .before .before .before .before .before .before .before .before .args .held .now) (c .before .before .before .before .before .before .before .before .args .counts .now) (c .before .before .before .before .before .before .before .before .args .waiting .now)))) 0 0) (c .before .before .before .before .before .before .before .before .args .kind))) (c .if1 .taken)) _ _ _ ((c .before .bump-if-ready .ensures .1 ∙ sym (room-kept (c .before .before .before .before .before .before .before .before .args .tested) (c .before .before .before .before .before .before .before .before .args .list .now) 2 (c .before .before .before .before .before .before .before .before .args .kind) (length (c .before .before .before .before .before .before .before .before .args .out .now)) (stateOf (numsOf (c .before .before .before .before .before .before .before .before .args .nums .now)) (c .before .before .before .before .before .before .before .before .args .held .now) (c .before .before .before .before .before .before .before .before .args .counts .now) (c .before .before .before .before .before .before .before .before .args .waiting .now)) _ (c .before .bump-if-ready .ensures .0) (c .if1 .taken))), refl, refl)
 
-front-of-requires : tie.Need-front-of-requires
-front-of-requires c κs = ((sound-bounded (c .before .before .before .before .before .before .before .before .before .before .before .args .tested) (c .before .before .before .before .before .before .before .before .before .before .before .args .list .now) (stateOf (c .before .before .before .before .before .before .before .before .before .before .before .args .nums) (c .before .before .before .before .before .before .before .before .before .before .before .args .held .now) (c .before .before .before .before .before .before .before .before .before .before .before .args .counts .now) (c .before .before .before .before .before .before .before .before .before .before .before .args .waiting .now)) ((refusal-none (c .before .before .before .before .before .before .before .before .before .before .before .args .tested) (c .before .before .before .before .before .before .before .before .before .before .before .args .list .now) 0 (stateOf (c .before .before .before .before .before .before .before .before .before .before .before .args .nums) (c .before .before .before .before .before .before .before .before .before .before .before .args .held .now) (c .before .before .before .before .before .before .before .before .before .before .before .args .counts .now) (c .before .before .before .before .before .before .before .before .before .before .before .args .waiting .now)) (sym (c .before .before .before .before .before .fill-refusal .ensures) ∙ c .before .before .before .before .if1 .left)) .0)) .reach, (sound-bounded (c .before .before .before .before .before .before .before .before .before .before .before .args .tested) (c .before .before .before .before .before .before .before .before .before .before .before .args .list .now) (stateOf (c .before .before .before .before .before .before .before .before .before .before .before .args .nums) (c .before .before .before .before .before .before .before .before .before .before .before .args .held .now) (c .before .before .before .before .before .before .before .before .before .before .before .args .counts .now) (c .before .before .before .before .before .before .before .before .before .before .before .args .waiting .now)) ((refusal-none (c .before .before .before .before .before .before .before .before .before .before .before .args .tested) (c .before .before .before .before .before .before .before .before .before .before .before .args .list .now) 0 (stateOf (c .before .before .before .before .before .before .before .before .before .before .before .args .nums) (c .before .before .before .before .before .before .before .before .before .before .before .args .held .now) (c .before .before .before .before .before .before .before .before .before .before .before .args .counts .now) (c .before .before .before .before .before .before .before .before .before .before .before .args .waiting .now)) (sym (c .before .before .before .before .before .fill-refusal .ensures) ∙ c .before .before .before .before .if1 .left)) .0)) .wait-few, c .before .before .front-of-arg2 .given .0, c .front-of-arg4 .given .0)
+nth-words-requires : tie.Need-nth-words-requires
+nth-words-requires c κs = search needs
 
-wanted-requires : tie.Need-wanted-requires
-wanted-requires c κs = omega (arith, c .front-of .ensures .1)
-
-refuse-requires-2 : tie.Need-refuse-requires-2
-refuse-requires-2 c κs = search needs
+nothing-requires : tie.Need-nothing-requires
+nothing-requires c κs = search needs
 
 returns-2 : tie.Need-returns-2
-unfolding bumpIfBy
-returns-2 c = rw (c .refuse2 .ensures) (parts (c .before .before .before .before .before .before .before .before .before .before .before .before .before .before .before .args .out .now) _ _ (stored-short (length (c .before .before .before .before .before .before .before .before .before .before .before .before .before .before .before .args .out .now)) (stateOf (c .before .before .before .before .before .before .before .before .before .before .before .before .before .before .before .args .nums) (c .before .before .before .before .before .before .before .before .before .before .before .before .before .before .before .args .held .now) (c .before .before .before .before .before .before .before .before .before .before .before .before .before .before .before .args .counts .now) (c .before .before .before .before .before .before .before .before .before .before .before .before .before .before .before .args .waiting .now)) (perhaps (c .before .before .before .before .before .before .before .before .before .before .before .before .before .before .before .args .list .now) (Done (whiteOf (fill (c .before .before .before .before .before .before .before .before .before .before .before .before .before .before .before .args .list .now) 0 (stateOf (c .before .before .before .before .before .before .before .before .before .before .before .before .before .before .before .args .nums) (c .before .before .before .before .before .before .before .before .before .before .before .before .before .before .before .args .held .now) (c .before .before .before .before .before .before .before .before .before .before .before .before .before .before .before .args .counts .now) (c .before .before .before .before .before .before .before .before .before .before .before .before .before .before .before .args .waiting .now))) + 1) 1 0 0) (fill (c .before .before .before .before .before .before .before .before .before .before .before .before .before .before .before .args .list .now) 0 (stateOf (c .before .before .before .before .before .before .before .before .before .before .before .before .before .before .before .args .nums) (c .before .before .before .before .before .before .before .before .before .before .before .before .before .before .before .args .held .now) (c .before .before .before .before .before .before .before .before .before .before .before .before .before .before .before .args .counts .now) (c .before .before .before .before .before .before .before .before .before .before .before .before .before .before .before .args .waiting .now))) (eqb (getD (nthOf (c .before .before .before .before .before .before .before .before .before .before .before .before .before .before .before .args .list .now) 0 (fill (c .before .before .before .before .before .before .before .before .before .before .before .before .before .before .before .args .list .now) 0 (stateOf (c .before .before .before .before .before .before .before .before .before .before .before .before .before .before .before .args .nums) (c .before .before .before .before .before .before .before .before .before .before .before .before .before .before .before .args .held .now) (c .before .before .before .before .before .before .before .before .before .before .before .before .before .before .before .args .counts .now) (c .before .before .before .before .before .before .before .before .before .before .before .before .before .before .before .args .waiting .now)))) 0 0) (c .before .before .before .before .before .before .before .before .before .before .before .before .before .before .before .args .kind))) (omega (arith, perhaps-length (c .before .before .before .before .before .before .before .before .before .before .before .before .before .before .before .args .list .now) (Done (whiteOf (fill (c .before .before .before .before .before .before .before .before .before .before .before .before .before .before .before .args .list .now) 0 (stateOf (c .before .before .before .before .before .before .before .before .before .before .before .before .before .before .before .args .nums) (c .before .before .before .before .before .before .before .before .before .before .before .before .before .before .before .args .held .now) (c .before .before .before .before .before .before .before .before .before .before .before .before .before .before .before .args .counts .now) (c .before .before .before .before .before .before .before .before .before .before .before .before .before .before .before .args .waiting .now))) + 1) 1 0 0) (fill (c .before .before .before .before .before .before .before .before .before .before .before .before .before .before .before .args .list .now) 0 (stateOf (c .before .before .before .before .before .before .before .before .before .before .before .before .before .before .before .args .nums) (c .before .before .before .before .before .before .before .before .before .before .before .before .before .before .before .args .held .now) (c .before .before .before .before .before .before .before .before .before .before .before .before .before .before .before .args .counts .now) (c .before .before .before .before .before .before .before .before .before .before .before .before .before .before .before .args .waiting .now))) (eqb (getD (nthOf (c .before .before .before .before .before .before .before .before .before .before .before .before .before .before .before .args .list .now) 0 (fill (c .before .before .before .before .before .before .before .before .before .before .before .before .before .before .before .args .list .now) 0 (stateOf (c .before .before .before .before .before .before .before .before .before .before .before .before .before .before .before .args .nums) (c .before .before .before .before .before .before .before .before .before .before .before .before .before .before .before .args .held .now) (c .before .before .before .before .before .before .before .before .before .before .before .before .before .before .before .args .counts .now) (c .before .before .before .before .before .before .before .before .before .before .before .before .before .before .before .args .waiting .now)))) 0 0) (c .before .before .before .before .before .before .before .before .before .before .before .before .before .before .before .args .kind)), (c .before .before .wanted .ensures ∙ ap₂ (λ (k : ℕ) (ws : List ℕ). pick (eqb (getD ws 0 0) (c .before .before .before .before .before .before .before .before .before .before .before .before .before .before .before .args .kind)) (k + 1) 0) ((c .before .before .before .front-of .ensures .0 (c .before .before .before .before .before .before .before .before .before .before .before .before .before .before .before .args .waiting .now)) .0) ((c .before .before .before .front-of .ensures .0 (c .before .before .before .before .before .before .before .before .before .before .before .before .before .before .before .args .waiting .now)) .1)), c .before .if2 .taken)) ∙ unless-yes _ (stateOf (c .before .before .before .before .before .before .before .before .before .before .before .before .before .before .before .args .nums) (c .before .before .before .before .before .before .before .before .before .before .before .before .before .before .before .args .held .now) (c .before .before .before .before .before .before .before .before .before .before .before .before .before .before .before .args .counts .now) (c .before .before .before .before .before .before .before .before .before .before .before .before .before .before .before .args .waiting .now)) _ (c .before .before .before .before .before .before .before .before .before .fill-refusal .ensures) (storedBy (length (c .before .before .before .before .before .before .before .before .before .before .before .before .before .before .before .args .out .now)) (stateOf (c .before .before .before .before .before .before .before .before .before .before .before .before .before .before .before .args .nums) (c .before .before .before .before .before .before .before .before .before .before .before .before .before .before .before .args .held .now) (c .before .before .before .before .before .before .before .before .before .before .before .before .before .before .before .args .counts .now) (c .before .before .before .before .before .before .before .before .before .before .before .before .before .before .before .args .waiting .now)) (perhaps (c .before .before .before .before .before .before .before .before .before .before .before .before .before .before .before .args .list .now) (Done (whiteOf (fill (c .before .before .before .before .before .before .before .before .before .before .before .before .before .before .before .args .list .now) 0 (stateOf (c .before .before .before .before .before .before .before .before .before .before .before .before .before .before .before .args .nums) (c .before .before .before .before .before .before .before .before .before .before .before .before .before .before .before .args .held .now) (c .before .before .before .before .before .before .before .before .before .before .before .before .before .before .before .args .counts .now) (c .before .before .before .before .before .before .before .before .before .before .before .before .before .before .before .args .waiting .now))) + 1) 1 0 0) (fill (c .before .before .before .before .before .before .before .before .before .before .before .before .before .before .before .args .list .now) 0 (stateOf (c .before .before .before .before .before .before .before .before .before .before .before .before .before .before .before .args .nums) (c .before .before .before .before .before .before .before .before .before .before .before .before .before .before .before .args .held .now) (c .before .before .before .before .before .before .before .before .before .before .before .before .before .before .before .args .counts .now) (c .before .before .before .before .before .before .before .before .before .before .before .before .before .before .before .args .waiting .now))) (eqb (getD (nthOf (c .before .before .before .before .before .before .before .before .before .before .before .before .before .before .before .args .list .now) 0 (fill (c .before .before .before .before .before .before .before .before .before .before .before .before .before .before .before .args .list .now) 0 (stateOf (c .before .before .before .before .before .before .before .before .before .before .before .before .before .before .before .args .nums) (c .before .before .before .before .before .before .before .before .before .before .before .before .before .before .before .args .held .now) (c .before .before .before .before .before .before .before .before .before .before .before .before .before .before .before .args .counts .now) (c .before .before .before .before .before .before .before .before .before .before .before .before .before .before .before .args .waiting .now)))) 0 0) (c .before .before .before .before .before .before .before .before .before .before .before .before .before .before .before .args .kind)))) (c .before .before .before .before .before .before .before .before .if1 .left)))
+unfolding bumpIfBy needBy
+returns-2 c = parts-of (c .before .before .before .before .before .before .before .before .before .before .before .before .before .before .args .out .now) _ _ (ap (perhaps (c .before .before .before .before .before .before .before .before .before .before .before .before .before .before .args .list .now) (Done (whiteOf (fill (c .before .before .before .before .before .before .before .before .before .before .before .before .before .before .args .list .now) 0 (stateOf (numsOf (c .before .before .before .before .before .before .before .before .before .before .before .before .before .before .args .nums .now)) (c .before .before .before .before .before .before .before .before .before .before .before .before .before .before .args .held .now) (c .before .before .before .before .before .before .before .before .before .before .before .before .before .before .args .counts .now) (c .before .before .before .before .before .before .before .before .before .before .before .before .before .before .args .waiting .now))) + 1) 1 0 0) (fill (c .before .before .before .before .before .before .before .before .before .before .before .before .before .before .args .list .now) 0 (stateOf (numsOf (c .before .before .before .before .before .before .before .before .before .before .before .before .before .before .args .nums .now)) (c .before .before .before .before .before .before .before .before .before .before .before .before .before .before .args .held .now) (c .before .before .before .before .before .before .before .before .before .before .before .before .before .before .args .counts .now) (c .before .before .before .before .before .before .before .before .before .before .before .before .before .before .args .waiting .now)))) (sym (ne-eqb (getD (nthOf (c .before .before .before .before .before .before .before .before .before .before .before .before .before .before .args .list .now) 0 (fill (c .before .before .before .before .before .before .before .before .before .before .before .before .before .before .args .list .now) 0 (stateOf (numsOf (c .before .before .before .before .before .before .before .before .before .before .before .before .before .before .args .nums .now)) (c .before .before .before .before .before .before .before .before .before .before .before .before .before .before .args .held .now) (c .before .before .before .before .before .before .before .before .before .before .before .before .before .before .args .counts .now) (c .before .before .before .before .before .before .before .before .before .before .before .before .before .before .args .waiting .now)))) 0 0) (c .before .before .before .before .before .before .before .before .before .before .before .before .before .before .args .kind) (λ z. c .before .if2 .taken (ap (λ (ws : List ℕ). getD ws 0 0) (c .before .before .before .nth-words .ensures ∙ ap (nthOf (c .before .before .before .before .before .before .before .before .before .before .before .before .before .before .args .list .now) 0) (c .before .before .before .before .before .before .before .bump-if-ready .ensures .1 ∙ sym (room-filled (c .before .before .before .before .before .before .before .before .before .before .before .before .before .before .args .tested) (c .before .before .before .before .before .before .before .before .before .before .before .before .before .before .args .list .now) 2 (c .before .before .before .before .before .before .before .before .before .before .before .before .before .before .args .kind) (length (c .before .before .before .before .before .before .before .before .before .before .before .before .before .before .args .out .now)) (stateOf (numsOf (c .before .before .before .before .before .before .before .before .before .before .before .before .before .before .args .nums .now)) (c .before .before .before .before .before .before .before .before .before .before .before .before .before .before .args .held .now) (c .before .before .before .before .before .before .before .before .before .before .before .before .before .before .args .counts .now) (c .before .before .before .before .before .before .before .before .before .before .before .before .before .before .args .waiting .now)) _ (c .before .before .before .before .before .before .before .bump-if-ready .ensures .0) (c .before .before .before .before .before .before .if1 .left)))) ∙ z)))) ∙ room-yes (c .before .before .before .before .before .before .before .before .before .before .before .before .before .before .args .tested) (c .before .before .before .before .before .before .before .before .before .before .before .before .before .before .args .list .now) 2 (c .before .before .before .before .before .before .before .before .before .before .before .before .before .before .args .kind) (length (c .before .before .before .before .before .before .before .before .before .before .before .before .before .before .args .out .now)) (stateOf (numsOf (c .before .before .before .before .before .before .before .before .before .before .before .before .before .before .args .nums .now)) (c .before .before .before .before .before .before .before .before .before .before .before .before .before .before .args .held .now) (c .before .before .before .before .before .before .before .before .before .before .before .before .before .before .args .counts .now) (c .before .before .before .before .before .before .before .before .before .before .before .before .before .before .args .waiting .now)) _ (c .before .before .before .before .before .before .before .bump-if-ready .ensures .0) (perhaps (c .before .before .before .before .before .before .before .before .before .before .before .before .before .before .args .list .now) (Done (whiteOf (fill (c .before .before .before .before .before .before .before .before .before .before .before .before .before .before .args .list .now) 0 (stateOf (numsOf (c .before .before .before .before .before .before .before .before .before .before .before .before .before .before .args .nums .now)) (c .before .before .before .before .before .before .before .before .before .before .before .before .before .before .args .held .now) (c .before .before .before .before .before .before .before .before .before .before .before .before .before .before .args .counts .now) (c .before .before .before .before .before .before .before .before .before .before .before .before .before .before .args .waiting .now))) + 1) 1 0 0) (fill (c .before .before .before .before .before .before .before .before .before .before .before .before .before .before .args .list .now) 0 (stateOf (numsOf (c .before .before .before .before .before .before .before .before .before .before .before .before .before .before .args .nums .now)) (c .before .before .before .before .before .before .before .before .before .before .before .before .before .before .args .held .now) (c .before .before .before .before .before .before .before .before .before .before .before .before .before .before .args .counts .now) (c .before .before .before .before .before .before .before .before .before .before .before .before .before .before .args .waiting .now))) (eqb (getD (nthOf (c .before .before .before .before .before .before .before .before .before .before .before .before .before .before .args .list .now) 0 (fill (c .before .before .before .before .before .before .before .before .before .before .before .before .before .before .args .list .now) 0 (stateOf (numsOf (c .before .before .before .before .before .before .before .before .before .before .before .before .before .before .args .nums .now)) (c .before .before .before .before .before .before .before .before .before .before .before .before .before .before .args .held .now) (c .before .before .before .before .before .before .before .before .before .before .before .before .before .before .args .counts .now) (c .before .before .before .before .before .before .before .before .before .before .before .before .before .before .args .waiting .now)))) 0 0) (c .before .before .before .before .before .before .before .before .before .before .before .before .before .before .args .kind))) (perhaps-need (c .before .before .before .before .before .before .before .before .before .before .before .before .before .before .args .list .now) (Done (whiteOf (fill (c .before .before .before .before .before .before .before .before .before .before .before .before .before .before .args .list .now) 0 (stateOf (numsOf (c .before .before .before .before .before .before .before .before .before .before .before .before .before .before .args .nums .now)) (c .before .before .before .before .before .before .before .before .before .before .before .before .before .before .args .held .now) (c .before .before .before .before .before .before .before .before .before .before .before .before .before .before .args .counts .now) (c .before .before .before .before .before .before .before .before .before .before .before .before .before .before .args .waiting .now))) + 1) 1 0 0) (fill (c .before .before .before .before .before .before .before .before .before .before .before .before .before .before .args .list .now) 0 (stateOf (numsOf (c .before .before .before .before .before .before .before .before .before .before .before .before .before .before .args .nums .now)) (c .before .before .before .before .before .before .before .before .before .before .before .before .before .before .args .held .now) (c .before .before .before .before .before .before .before .before .before .before .before .before .before .before .args .counts .now) (c .before .before .before .before .before .before .before .before .before .before .before .before .before .before .args .waiting .now))) (eqb (getD (nthOf (c .before .before .before .before .before .before .before .before .before .before .before .before .before .before .args .list .now) 0 (fill (c .before .before .before .before .before .before .before .before .before .before .before .before .before .before .args .list .now) 0 (stateOf (numsOf (c .before .before .before .before .before .before .before .before .before .before .before .before .before .before .args .nums .now)) (c .before .before .before .before .before .before .before .before .before .before .before .before .before .before .args .held .now) (c .before .before .before .before .before .before .before .before .before .before .before .before .before .before .args .counts .now) (c .before .before .before .before .before .before .before .before .before .before .before .before .before .before .args .waiting .now)))) 0 0) (c .before .before .before .before .before .before .before .before .before .before .before .before .before .before .args .kind))) (c .before .before .before .before .before .before .if1 .left)) _ _ _ ((c .before .before .before .before .before .before .before .bump-if-ready .ensures .1 ∙ sym (room-filled (c .before .before .before .before .before .before .before .before .before .before .before .before .before .before .args .tested) (c .before .before .before .before .before .before .before .before .before .before .before .before .before .before .args .list .now) 2 (c .before .before .before .before .before .before .before .before .before .before .before .before .before .before .args .kind) (length (c .before .before .before .before .before .before .before .before .before .before .before .before .before .before .args .out .now)) (stateOf (numsOf (c .before .before .before .before .before .before .before .before .before .before .before .before .before .before .args .nums .now)) (c .before .before .before .before .before .before .before .before .before .before .before .before .before .before .args .held .now) (c .before .before .before .before .before .before .before .before .before .before .before .before .before .before .args .counts .now) (c .before .before .before .before .before .before .before .before .before .before .before .before .before .before .args .waiting .now)) _ (c .before .before .before .before .before .before .before .bump-if-ready .ensures .0) (c .before .before .before .before .before .before .if1 .left))), c .nothing .ensures, refl)
 
-lacks-requires : tie.Need-lacks-requires
-lacks-requires c κs = search needs
-
-gathers-at-requires : tie.Need-gathers-at-requires
-gathers-at-requires c κs = ready-for (c .before .before .before .before .before .before .before .before .before .before .before .before .before .before .before .before .before .before .args .list .now) (c .before .before .before .before .before .before .before .before .before .before .before .before .before .before .before .before .before .before .args .nums) 1 _ (sound-bounded (c .before .before .before .before .before .before .before .before .before .before .before .before .before .before .before .before .before .before .args .tested) (c .before .before .before .before .before .before .before .before .before .before .before .before .before .before .before .before .before .before .args .list .now) (stateOf (c .before .before .before .before .before .before .before .before .before .before .before .before .before .before .before .before .before .before .args .nums) (c .before .before .before .before .before .before .before .before .before .before .before .before .before .before .before .before .before .before .args .held .now) (c .before .before .before .before .before .before .before .before .before .before .before .before .before .before .before .before .before .before .args .counts .now) (c .before .before .before .before .before .before .before .before .before .before .before .before .before .before .before .before .before .before .args .waiting .now)) ((refusal-none (c .before .before .before .before .before .before .before .before .before .before .before .before .before .before .before .before .before .before .args .tested) (c .before .before .before .before .before .before .before .before .before .before .before .before .before .before .before .before .before .before .args .list .now) 0 (stateOf (c .before .before .before .before .before .before .before .before .before .before .before .before .before .before .before .before .before .before .args .nums) (c .before .before .before .before .before .before .before .before .before .before .before .before .before .before .before .before .before .before .args .held .now) (c .before .before .before .before .before .before .before .before .before .before .before .before .before .before .before .before .before .before .args .counts .now) (c .before .before .before .before .before .before .before .before .before .before .before .before .before .before .before .before .before .before .args .waiting .now)) (sym (c .before .before .before .before .before .before .before .before .before .before .before .before .fill-refusal .ensures) ∙ c .before .before .before .before .before .before .before .before .before .before .before .if1 .left)) .0)) (omega arith) (c .lacks .ensures)
-
-done-requires : tie.Need-done-requires
-done-requires c κs = search needs
-
-returns-3 : tie.Need-returns-3
-unfolding bumpIfBy
-returns-3 c = rw (c .done .ensures) (parts-of (c .before .before .before .before .before .before .before .before .before .before .before .before .before .before .before .before .before .before .before .before .before .args .out .now) _ _ (perhaps-none (c .before .before .before .before .before .before .before .before .before .before .before .before .before .before .before .before .before .before .before .before .before .args .list .now) (Done (whiteOf (fill (c .before .before .before .before .before .before .before .before .before .before .before .before .before .before .before .before .before .before .before .before .before .args .list .now) 0 (stateOf (c .before .before .before .before .before .before .before .before .before .before .before .before .before .before .before .before .before .before .before .before .before .args .nums) (c .before .before .before .before .before .before .before .before .before .before .before .before .before .before .before .before .before .before .before .before .before .args .held .now) (c .before .before .before .before .before .before .before .before .before .before .before .before .before .before .before .before .before .before .before .before .before .args .counts .now) (c .before .before .before .before .before .before .before .before .before .before .before .before .before .before .before .before .before .before .before .before .before .args .waiting .now))) + 1) 1 0 0) (fill (c .before .before .before .before .before .before .before .before .before .before .before .before .before .before .before .before .before .before .before .before .before .args .list .now) 0 (stateOf (c .before .before .before .before .before .before .before .before .before .before .before .before .before .before .before .before .before .before .before .before .before .args .nums) (c .before .before .before .before .before .before .before .before .before .before .before .before .before .before .before .before .before .before .before .before .before .args .held .now) (c .before .before .before .before .before .before .before .before .before .before .before .before .before .before .before .before .before .before .before .before .before .args .counts .now) (c .before .before .before .before .before .before .before .before .before .before .before .before .before .before .before .before .before .before .before .before .before .args .waiting .now))) (eqb (getD (nthOf (c .before .before .before .before .before .before .before .before .before .before .before .before .before .before .before .before .before .before .before .before .before .args .list .now) 0 (fill (c .before .before .before .before .before .before .before .before .before .before .before .before .before .before .before .before .before .before .before .before .before .args .list .now) 0 (stateOf (c .before .before .before .before .before .before .before .before .before .before .before .before .before .before .before .before .before .before .before .before .before .args .nums) (c .before .before .before .before .before .before .before .before .before .before .before .before .before .before .before .before .before .before .before .before .before .args .held .now) (c .before .before .before .before .before .before .before .before .before .before .before .before .before .before .before .before .before .before .before .before .before .args .counts .now) (c .before .before .before .before .before .before .before .before .before .before .before .before .before .before .before .before .before .before .before .before .before .args .waiting .now)))) 0 0) (c .before .before .before .before .before .before .before .before .before .before .before .before .before .before .before .before .before .before .before .before .before .args .kind)) (sym (c .before .before .before .before .before .before .before .before .wanted .ensures ∙ ap₂ (λ (k : ℕ) (ws : List ℕ). pick (eqb (getD ws 0 0) (c .before .before .before .before .before .before .before .before .before .before .before .before .before .before .before .before .before .before .before .before .before .args .kind)) (k + 1) 0) ((c .before .before .before .before .before .before .before .before .before .front-of .ensures .0 (c .before .before .before .before .before .before .before .before .before .before .before .before .before .before .before .before .before .before .before .before .before .args .waiting .now)) .0) ((c .before .before .before .before .before .before .before .before .before .front-of .ensures .0 (c .before .before .before .before .before .before .before .before .before .before .before .before .before .before .before .before .before .before .before .before .before .args .waiting .now)) .1)) ∙ c .before .if3 .taken) ∙ stored-done (length (c .before .before .before .before .before .before .before .before .before .before .before .before .before .before .before .before .before .before .before .before .before .args .out .now)) (stateOf (c .before .before .before .before .before .before .before .before .before .before .before .before .before .before .before .before .before .before .before .before .before .args .nums) (c .before .before .before .before .before .before .before .before .before .before .before .before .before .before .before .before .before .before .before .before .before .args .held .now) (c .before .before .before .before .before .before .before .before .before .before .before .before .before .before .before .before .before .before .before .before .before .args .counts .now) (c .before .before .before .before .before .before .before .before .before .before .before .before .before .before .before .before .before .before .before .before .before .args .waiting .now)) (perhaps (c .before .before .before .before .before .before .before .before .before .before .before .before .before .before .before .before .before .before .before .before .before .args .list .now) (Done (whiteOf (fill (c .before .before .before .before .before .before .before .before .before .before .before .before .before .before .before .before .before .before .before .before .before .args .list .now) 0 (stateOf (c .before .before .before .before .before .before .before .before .before .before .before .before .before .before .before .before .before .before .before .before .before .args .nums) (c .before .before .before .before .before .before .before .before .before .before .before .before .before .before .before .before .before .before .before .before .before .args .held .now) (c .before .before .before .before .before .before .before .before .before .before .before .before .before .before .before .before .before .before .before .before .before .args .counts .now) (c .before .before .before .before .before .before .before .before .before .before .before .before .before .before .before .before .before .before .before .before .before .args .waiting .now))) + 1) 1 0 0) (fill (c .before .before .before .before .before .before .before .before .before .before .before .before .before .before .before .before .before .before .before .before .before .args .list .now) 0 (stateOf (c .before .before .before .before .before .before .before .before .before .before .before .before .before .before .before .before .before .before .before .before .before .args .nums) (c .before .before .before .before .before .before .before .before .before .before .before .before .before .before .before .before .before .before .before .before .before .args .held .now) (c .before .before .before .before .before .before .before .before .before .before .before .before .before .before .before .before .before .before .before .before .before .args .counts .now) (c .before .before .before .before .before .before .before .before .before .before .before .before .before .before .before .before .before .before .before .before .before .args .waiting .now))) (eqb (getD (nthOf (c .before .before .before .before .before .before .before .before .before .before .before .before .before .before .before .before .before .before .before .before .before .args .list .now) 0 (fill (c .before .before .before .before .before .before .before .before .before .before .before .before .before .before .before .before .before .before .before .before .before .args .list .now) 0 (stateOf (c .before .before .before .before .before .before .before .before .before .before .before .before .before .before .before .before .before .before .before .before .before .args .nums) (c .before .before .before .before .before .before .before .before .before .before .before .before .before .before .before .before .before .before .before .before .before .args .held .now) (c .before .before .before .before .before .before .before .before .before .before .before .before .before .before .before .before .before .before .before .before .before .args .counts .now) (c .before .before .before .before .before .before .before .before .before .before .before .before .before .before .before .before .before .before .before .before .before .args .waiting .now)))) 0 0) (c .before .before .before .before .before .before .before .before .before .before .before .before .before .before .before .before .before .before .before .before .before .args .kind))) (omega (arith, perhaps-length (c .before .before .before .before .before .before .before .before .before .before .before .before .before .before .before .before .before .before .before .before .before .args .list .now) (Done (whiteOf (fill (c .before .before .before .before .before .before .before .before .before .before .before .before .before .before .before .before .before .before .before .before .before .args .list .now) 0 (stateOf (c .before .before .before .before .before .before .before .before .before .before .before .before .before .before .before .before .before .before .before .before .before .args .nums) (c .before .before .before .before .before .before .before .before .before .before .before .before .before .before .before .before .before .before .before .before .before .args .held .now) (c .before .before .before .before .before .before .before .before .before .before .before .before .before .before .before .before .before .before .before .before .before .args .counts .now) (c .before .before .before .before .before .before .before .before .before .before .before .before .before .before .before .before .before .before .before .before .before .args .waiting .now))) + 1) 1 0 0) (fill (c .before .before .before .before .before .before .before .before .before .before .before .before .before .before .before .before .before .before .before .before .before .args .list .now) 0 (stateOf (c .before .before .before .before .before .before .before .before .before .before .before .before .before .before .before .before .before .before .before .before .before .args .nums) (c .before .before .before .before .before .before .before .before .before .before .before .before .before .before .before .before .before .before .before .before .before .args .held .now) (c .before .before .before .before .before .before .before .before .before .before .before .before .before .before .before .before .before .before .before .before .before .args .counts .now) (c .before .before .before .before .before .before .before .before .before .before .before .before .before .before .before .before .before .before .before .before .before .args .waiting .now))) (eqb (getD (nthOf (c .before .before .before .before .before .before .before .before .before .before .before .before .before .before .before .before .before .before .before .before .before .args .list .now) 0 (fill (c .before .before .before .before .before .before .before .before .before .before .before .before .before .before .before .before .before .before .before .before .before .args .list .now) 0 (stateOf (c .before .before .before .before .before .before .before .before .before .before .before .before .before .before .before .before .before .before .before .before .before .args .nums) (c .before .before .before .before .before .before .before .before .before .before .before .before .before .before .before .before .before .before .before .before .before .args .held .now) (c .before .before .before .before .before .before .before .before .before .before .before .before .before .before .before .before .before .before .before .before .before .args .counts .now) (c .before .before .before .before .before .before .before .before .before .before .before .before .before .before .before .before .before .before .before .before .before .args .waiting .now)))) 0 0) (c .before .before .before .before .before .before .before .before .before .before .before .before .before .before .before .before .before .before .before .before .before .args .kind)), (c .before .before .before .before .before .before .before .before .wanted .ensures ∙ ap₂ (λ (k : ℕ) (ws : List ℕ). pick (eqb (getD ws 0 0) (c .before .before .before .before .before .before .before .before .before .before .before .before .before .before .before .before .before .before .before .before .before .args .kind)) (k + 1) 0) ((c .before .before .before .before .before .before .before .before .before .front-of .ensures .0 (c .before .before .before .before .before .before .before .before .before .before .before .before .before .before .before .before .before .before .before .before .before .args .waiting .now)) .0) ((c .before .before .before .before .before .before .before .before .before .front-of .ensures .0 (c .before .before .before .before .before .before .before .before .before .before .before .before .before .before .before .before .before .before .before .before .before .args .waiting .now)) .1)), c .before .before .before .before .before .before .before .if2 .left)) ∙ unless-yes _ (stateOf (c .before .before .before .before .before .before .before .before .before .before .before .before .before .before .before .before .before .before .before .before .before .args .nums) (c .before .before .before .before .before .before .before .before .before .before .before .before .before .before .before .before .before .before .before .before .before .args .held .now) (c .before .before .before .before .before .before .before .before .before .before .before .before .before .before .before .before .before .before .before .before .before .args .counts .now) (c .before .before .before .before .before .before .before .before .before .before .before .before .before .before .before .before .before .before .before .before .before .args .waiting .now)) _ (c .before .before .before .before .before .before .before .before .before .before .before .before .before .before .before .fill-refusal .ensures) (storedBy (length (c .before .before .before .before .before .before .before .before .before .before .before .before .before .before .before .before .before .before .before .before .before .args .out .now)) (stateOf (c .before .before .before .before .before .before .before .before .before .before .before .before .before .before .before .before .before .before .before .before .before .args .nums) (c .before .before .before .before .before .before .before .before .before .before .before .before .before .before .before .before .before .before .before .before .before .args .held .now) (c .before .before .before .before .before .before .before .before .before .before .before .before .before .before .before .before .before .before .before .before .before .args .counts .now) (c .before .before .before .before .before .before .before .before .before .before .before .before .before .before .before .before .before .before .before .before .before .args .waiting .now)) (perhaps (c .before .before .before .before .before .before .before .before .before .before .before .before .before .before .before .before .before .before .before .before .before .args .list .now) (Done (whiteOf (fill (c .before .before .before .before .before .before .before .before .before .before .before .before .before .before .before .before .before .before .before .before .before .args .list .now) 0 (stateOf (c .before .before .before .before .before .before .before .before .before .before .before .before .before .before .before .before .before .before .before .before .before .args .nums) (c .before .before .before .before .before .before .before .before .before .before .before .before .before .before .before .before .before .before .before .before .before .args .held .now) (c .before .before .before .before .before .before .before .before .before .before .before .before .before .before .before .before .before .before .before .before .before .args .counts .now) (c .before .before .before .before .before .before .before .before .before .before .before .before .before .before .before .before .before .before .before .before .before .args .waiting .now))) + 1) 1 0 0) (fill (c .before .before .before .before .before .before .before .before .before .before .before .before .before .before .before .before .before .before .before .before .before .args .list .now) 0 (stateOf (c .before .before .before .before .before .before .before .before .before .before .before .before .before .before .before .before .before .before .before .before .before .args .nums) (c .before .before .before .before .before .before .before .before .before .before .before .before .before .before .before .before .before .before .before .before .before .args .held .now) (c .before .before .before .before .before .before .before .before .before .before .before .before .before .before .before .before .before .before .before .before .before .args .counts .now) (c .before .before .before .before .before .before .before .before .before .before .before .before .before .before .before .before .before .before .before .before .before .args .waiting .now))) (eqb (getD (nthOf (c .before .before .before .before .before .before .before .before .before .before .before .before .before .before .before .before .before .before .before .before .before .args .list .now) 0 (fill (c .before .before .before .before .before .before .before .before .before .before .before .before .before .before .before .before .before .before .before .before .before .args .list .now) 0 (stateOf (c .before .before .before .before .before .before .before .before .before .before .before .before .before .before .before .before .before .before .before .before .before .args .nums) (c .before .before .before .before .before .before .before .before .before .before .before .before .before .before .before .before .before .before .before .before .before .args .held .now) (c .before .before .before .before .before .before .before .before .before .before .before .before .before .before .before .before .before .before .before .before .before .args .counts .now) (c .before .before .before .before .before .before .before .before .before .before .before .before .before .before .before .before .before .before .before .before .before .args .waiting .now)))) 0 0) (c .before .before .before .before .before .before .before .before .before .before .before .before .before .before .before .before .before .before .before .before .before .args .kind)))) (c .before .before .before .before .before .before .before .before .before .before .before .before .before .before .if1 .left)) _ _ _ ((c .before .before .gathers-at .ensures ∙ ap (λ (k : ℕ). gathers (c .before .before .before .before .before .before .before .before .before .before .before .before .before .before .before .before .before .before .before .before .before .args .list .now) k (stateOf (c .before .before .before .before .before .before .before .before .before .before .before .before .before .before .before .before .before .before .before .before .before .args .nums) (c .before .before .before .before .before .before .before .before .before .before .before .before .before .before .before .before .before .before .before .before .before .args .held .now) (c .before .before .before .before .before .before .before .before .before .before .before .before .before .before .before .before .before .before .before .before .before .args .counts .now) (c .before .before .before .before .before .before .before .before .before .before .before .before .before .before .before .before .before .before .before .before .before .args .waiting .now))) (c .before .before .before .lacks .ensures)), refl, refl))
+white-now-requires : tie.Need-white-now-requires
+white-now-requires c κs = search needs
 
 emit-front-requires : tie.Need-emit-front-requires
-emit-front-requires c κs = (omega (arith, (white-few (c .before .before .before .before .before .before .before .before .before .before .before .before .before .before .before .before .before .before .before .before .before .before .args .list .now) (stateOf (c .before .before .before .before .before .before .before .before .before .before .before .before .before .before .before .before .before .before .before .before .before .before .args .nums) (c .before .before .before .before .before .before .before .before .before .before .before .before .before .before .before .before .before .before .before .before .before .before .args .held .now) (c .before .before .before .before .before .before .before .before .before .before .before .before .before .before .before .before .before .before .before .before .before .before .args .counts .now) (c .before .before .before .before .before .before .before .before .before .before .before .before .before .before .before .before .before .before .before .before .before .before .args .waiting .now)) (sound-sum (c .before .before .before .before .before .before .before .before .before .before .before .before .before .before .before .before .before .before .before .before .before .before .args .tested) (c .before .before .before .before .before .before .before .before .before .before .before .before .before .before .before .before .before .before .before .before .before .before .args .list .now) (stateOf (c .before .before .before .before .before .before .before .before .before .before .before .before .before .before .before .before .before .before .before .before .before .before .args .nums) (c .before .before .before .before .before .before .before .before .before .before .before .before .before .before .before .before .before .before .before .before .before .before .args .held .now) (c .before .before .before .before .before .before .before .before .before .before .before .before .before .before .before .before .before .before .before .before .before .before .args .counts .now) (c .before .before .before .before .before .before .before .before .before .before .before .before .before .before .before .before .before .before .before .before .before .before .args .waiting .now)) ((refusal-none (c .before .before .before .before .before .before .before .before .before .before .before .before .before .before .before .before .before .before .before .before .before .before .args .tested) (c .before .before .before .before .before .before .before .before .before .before .before .before .before .before .before .before .before .before .before .before .before .before .args .list .now) 0 (stateOf (c .before .before .before .before .before .before .before .before .before .before .before .before .before .before .before .before .before .before .before .before .before .before .args .nums) (c .before .before .before .before .before .before .before .before .before .before .before .before .before .before .before .before .before .before .before .before .before .before .args .held .now) (c .before .before .before .before .before .before .before .before .before .before .before .before .before .before .before .before .before .before .before .before .before .before .args .counts .now) (c .before .before .before .before .before .before .before .before .before .before .before .before .before .before .before .before .before .before .before .before .before .before .args .waiting .now)) (sym (c .before .before .before .before .before .before .before .before .before .before .before .before .before .before .before .before .fill-refusal .ensures) ∙ c .before .before .before .before .before .before .before .before .before .before .before .before .before .before .before .if1 .left)) .0)) (c .before .before .before .before .before .before .before .before .before .before .before .before .before .front-of-arg2 .given .0) (c .before .before .before .before .before .before .before .before .before .before .before .front-of-arg4 .given .0)), (c .before .before .before .before .before .before .before .before .before .before .front-of .ensures .0 (c .before .before .before .before .before .before .before .before .before .before .before .before .before .before .before .before .before .before .before .before .before .before .args .waiting .now)) .0, ap (λ (x : State). x .nums .«wait_len») (c .before .before .before .gathers-at .ensures ∙ ap (λ (k : ℕ). gathers (c .before .before .before .before .before .before .before .before .before .before .before .before .before .before .before .before .before .before .before .before .before .before .args .list .now) k (stateOf (c .before .before .before .before .before .before .before .before .before .before .before .before .before .before .before .before .before .before .before .before .before .before .args .nums) (c .before .before .before .before .before .before .before .before .before .before .before .before .before .before .before .before .before .before .before .before .before .before .args .held .now) (c .before .before .before .before .before .before .before .before .before .before .before .before .before .before .before .before .before .before .before .before .before .before .args .counts .now) (c .before .before .before .before .before .before .before .before .before .before .before .before .before .before .before .before .before .before .before .before .before .before .args .waiting .now))) (c .before .before .before .before .lacks .ensures))), omega (arith, perhaps-some (c .before .before .before .before .before .before .before .before .before .before .before .before .before .before .before .before .before .before .before .before .before .before .args .list .now) (Done (whiteOf (fill (c .before .before .before .before .before .before .before .before .before .before .before .before .before .before .before .before .before .before .before .before .before .before .args .list .now) 0 (stateOf (c .before .before .before .before .before .before .before .before .before .before .before .before .before .before .before .before .before .before .before .before .before .before .args .nums) (c .before .before .before .before .before .before .before .before .before .before .before .before .before .before .before .before .before .before .before .before .before .before .args .held .now) (c .before .before .before .before .before .before .before .before .before .before .before .before .before .before .before .before .before .before .before .before .before .before .args .counts .now) (c .before .before .before .before .before .before .before .before .before .before .before .before .before .before .before .before .before .before .before .before .before .before .args .waiting .now))) + 1) 1 0 0) (fill (c .before .before .before .before .before .before .before .before .before .before .before .before .before .before .before .before .before .before .before .before .before .before .args .list .now) 0 (stateOf (c .before .before .before .before .before .before .before .before .before .before .before .before .before .before .before .before .before .before .before .before .before .before .args .nums) (c .before .before .before .before .before .before .before .before .before .before .before .before .before .before .before .before .before .before .before .before .before .before .args .held .now) (c .before .before .before .before .before .before .before .before .before .before .before .before .before .before .before .before .before .before .before .before .before .before .args .counts .now) (c .before .before .before .before .before .before .before .before .before .before .before .before .before .before .before .before .before .before .before .before .before .before .args .waiting .now))) (eqb (getD (nthOf (c .before .before .before .before .before .before .before .before .before .before .before .before .before .before .before .before .before .before .before .before .before .before .args .list .now) 0 (fill (c .before .before .before .before .before .before .before .before .before .before .before .before .before .before .before .before .before .before .before .before .before .before .args .list .now) 0 (stateOf (c .before .before .before .before .before .before .before .before .before .before .before .before .before .before .before .before .before .before .before .before .before .before .args .nums) (c .before .before .before .before .before .before .before .before .before .before .before .before .before .before .before .before .before .before .before .before .before .before .args .held .now) (c .before .before .before .before .before .before .before .before .before .before .before .before .before .before .before .before .before .before .before .before .before .before .args .counts .now) (c .before .before .before .before .before .before .before .before .before .before .before .before .before .before .before .before .before .before .before .before .before .before .args .waiting .now)))) 0 0) (c .before .before .before .before .before .before .before .before .before .before .before .before .before .before .before .before .before .before .before .before .before .before .args .kind)) (λ z. c .before .before .if3 .left ((c .before .before .before .before .before .before .before .before .before .wanted .ensures ∙ ap₂ (λ (k : ℕ) (ws : List ℕ). pick (eqb (getD ws 0 0) (c .before .before .before .before .before .before .before .before .before .before .before .before .before .before .before .before .before .before .before .before .before .before .args .kind)) (k + 1) 0) ((c .before .before .before .before .before .before .before .before .before .before .front-of .ensures .0 (c .before .before .before .before .before .before .before .before .before .before .before .before .before .before .before .before .before .before .before .before .before .before .args .waiting .now)) .0) ((c .before .before .before .before .before .before .before .before .before .before .front-of .ensures .0 (c .before .before .before .before .before .before .before .before .before .before .before .before .before .before .before .before .before .before .before .before .before .before .args .waiting .now)) .1)) ∙ z)) .1, (c .before .before .before .before .before .before .before .before .before .before .front-of .ensures .0 (c .before .before .before .before .before .before .before .before .before .before .before .before .before .before .before .before .before .before .before .before .before .before .args .waiting .now)) .0, (c .before .before .before .before .before .before .before .before .before .wanted .ensures ∙ ap₂ (λ (k : ℕ) (ws : List ℕ). pick (eqb (getD ws 0 0) (c .before .before .before .before .before .before .before .before .before .before .before .before .before .before .before .before .before .before .before .before .before .before .args .kind)) (k + 1) 0) ((c .before .before .before .before .before .before .before .before .before .before .front-of .ensures .0 (c .before .before .before .before .before .before .before .before .before .before .before .before .before .before .before .before .before .before .before .before .before .before .args .waiting .now)) .0) ((c .before .before .before .before .before .before .before .before .before .before .front-of .ensures .0 (c .before .before .before .before .before .before .before .before .before .before .before .before .before .before .before .before .before .before .before .before .before .before .args .waiting .now)) .1)), c .before .before .before .before .before .before .before .before .if2 .left))
+unfolding needBy
+emit-front-requires c κs = (omega (arith, (c .before .before .before .white-now .ensures ∙ ap whiteOf (c .before .before .before .before .before .before .before .before .before .before .before .before .bump-if-ready .ensures .1 ∙ sym (room-filled (c .before .before .before .before .before .before .before .before .before .before .before .before .before .before .before .before .before .before .before .args .tested) (c .before .before .before .before .before .before .before .before .before .before .before .before .before .before .before .before .before .before .before .args .list .now) 2 (c .before .before .before .before .before .before .before .before .before .before .before .before .before .before .before .before .before .before .before .args .kind) (length (c .before .before .before .before .before .before .before .before .before .before .before .before .before .before .before .before .before .before .before .args .out .now)) (stateOf (numsOf (c .before .before .before .before .before .before .before .before .before .before .before .before .before .before .before .before .before .before .before .args .nums .now)) (c .before .before .before .before .before .before .before .before .before .before .before .before .before .before .before .before .before .before .before .args .held .now) (c .before .before .before .before .before .before .before .before .before .before .before .before .before .before .before .before .before .before .before .args .counts .now) (c .before .before .before .before .before .before .before .before .before .before .before .before .before .before .before .before .before .before .before .args .waiting .now)) _ (c .before .before .before .before .before .before .before .before .before .before .before .before .bump-if-ready .ensures .0) (c .before .before .before .before .before .before .before .before .before .before .before .if1 .left)))), (c .before .before .before .before .before .before .before .before .before .before .before .before .bump-if-ready .ensures .2 (c .before .before .before .before .before .before .before .before .before .before .before .if1 .left)) .0, ap (λ (x : State). x .nums .«wait_len») (c .before .before .before .before .before .before .before .before .before .before .before .before .bump-if-ready .ensures .1 ∙ sym (room-filled (c .before .before .before .before .before .before .before .before .before .before .before .before .before .before .before .before .before .before .before .args .tested) (c .before .before .before .before .before .before .before .before .before .before .before .before .before .before .before .before .before .before .before .args .list .now) 2 (c .before .before .before .before .before .before .before .before .before .before .before .before .before .before .before .before .before .before .before .args .kind) (length (c .before .before .before .before .before .before .before .before .before .before .before .before .before .before .before .before .before .before .before .args .out .now)) (stateOf (numsOf (c .before .before .before .before .before .before .before .before .before .before .before .before .before .before .before .before .before .before .before .args .nums .now)) (c .before .before .before .before .before .before .before .before .before .before .before .before .before .before .before .before .before .before .before .args .held .now) (c .before .before .before .before .before .before .before .before .before .before .before .before .before .before .before .before .before .before .before .args .counts .now) (c .before .before .before .before .before .before .before .before .before .before .before .before .before .before .before .before .before .before .before .args .waiting .now)) _ (c .before .before .before .before .before .before .before .before .before .before .before .before .bump-if-ready .ensures .0) (c .before .before .before .before .before .before .before .before .before .before .before .if1 .left)))), omega (arith, (c .before .before .before .white-now .ensures ∙ ap whiteOf (c .before .before .before .before .before .before .before .before .before .before .before .before .bump-if-ready .ensures .1 ∙ sym (room-filled (c .before .before .before .before .before .before .before .before .before .before .before .before .before .before .before .before .before .before .before .args .tested) (c .before .before .before .before .before .before .before .before .before .before .before .before .before .before .before .before .before .before .before .args .list .now) 2 (c .before .before .before .before .before .before .before .before .before .before .before .before .before .before .before .before .before .before .before .args .kind) (length (c .before .before .before .before .before .before .before .before .before .before .before .before .before .before .before .before .before .before .before .args .out .now)) (stateOf (numsOf (c .before .before .before .before .before .before .before .before .before .before .before .before .before .before .before .before .before .before .before .args .nums .now)) (c .before .before .before .before .before .before .before .before .before .before .before .before .before .before .before .before .before .before .before .args .held .now) (c .before .before .before .before .before .before .before .before .before .before .before .before .before .before .before .before .before .before .before .args .counts .now) (c .before .before .before .before .before .before .before .before .before .before .before .before .before .before .before .before .before .before .before .args .waiting .now)) _ (c .before .before .before .before .before .before .before .before .before .before .before .before .bump-if-ready .ensures .0) (c .before .before .before .before .before .before .before .before .before .before .before .if1 .left)))), rw (eq-eqb (getD (nthOf (c .before .before .before .before .before .before .before .before .before .before .before .before .before .before .before .before .before .before .before .args .list .now) 0 (fill (c .before .before .before .before .before .before .before .before .before .before .before .before .before .before .before .before .before .before .before .args .list .now) 0 (stateOf (numsOf (c .before .before .before .before .before .before .before .before .before .before .before .before .before .before .before .before .before .before .before .args .nums .now)) (c .before .before .before .before .before .before .before .before .before .before .before .before .before .before .before .before .before .before .before .args .held .now) (c .before .before .before .before .before .before .before .before .before .before .before .before .before .before .before .before .before .before .before .args .counts .now) (c .before .before .before .before .before .before .before .before .before .before .before .before .before .before .before .before .before .before .before .args .waiting .now)))) 0 0) (c .before .before .before .before .before .before .before .before .before .before .before .before .before .before .before .before .before .before .before .args .kind) (sym (ap (λ (ws : List ℕ). getD ws 0 0) (c .before .before .before .before .before .before .before .before .nth-words .ensures ∙ ap (nthOf (c .before .before .before .before .before .before .before .before .before .before .before .before .before .before .before .before .before .before .before .args .list .now) 0) (c .before .before .before .before .before .before .before .before .before .before .before .before .bump-if-ready .ensures .1 ∙ sym (room-filled (c .before .before .before .before .before .before .before .before .before .before .before .before .before .before .before .before .before .before .before .args .tested) (c .before .before .before .before .before .before .before .before .before .before .before .before .before .before .before .before .before .before .before .args .list .now) 2 (c .before .before .before .before .before .before .before .before .before .before .before .before .before .before .before .before .before .before .before .args .kind) (length (c .before .before .before .before .before .before .before .before .before .before .before .before .before .before .before .before .before .before .before .args .out .now)) (stateOf (numsOf (c .before .before .before .before .before .before .before .before .before .before .before .before .before .before .before .before .before .before .before .args .nums .now)) (c .before .before .before .before .before .before .before .before .before .before .before .before .before .before .before .before .before .before .before .args .held .now) (c .before .before .before .before .before .before .before .before .before .before .before .before .before .before .before .before .before .before .before .args .counts .now) (c .before .before .before .before .before .before .before .before .before .before .before .before .before .before .before .before .before .before .before .args .waiting .now)) _ (c .before .before .before .before .before .before .before .before .before .before .before .before .bump-if-ready .ensures .0) (c .before .before .before .before .before .before .before .before .before .before .before .if1 .left))))) ∙ c .before .before .before .before .before .before .if2 .left)) at (room-none (c .before .before .before .before .before .before .before .before .before .before .before .before .before .before .before .before .before .before .before .args .tested) (c .before .before .before .before .before .before .before .before .before .before .before .before .before .before .before .before .before .before .before .args .list .now) 2 (c .before .before .before .before .before .before .before .before .before .before .before .before .before .before .before .before .before .before .before .args .kind) (length (c .before .before .before .before .before .before .before .before .before .before .before .before .before .before .before .before .before .before .before .args .out .now)) (stateOf (numsOf (c .before .before .before .before .before .before .before .before .before .before .before .before .before .before .before .before .before .before .before .args .nums .now)) (c .before .before .before .before .before .before .before .before .before .before .before .before .before .before .before .before .before .before .before .args .held .now) (c .before .before .before .before .before .before .before .before .before .before .before .before .before .before .before .before .before .before .before .args .counts .now) (c .before .before .before .before .before .before .before .before .before .before .before .before .before .before .before .before .before .before .before .args .waiting .now)) (sym (c .before .before .before .before .before .before .before .before .before .before .before .before .bump-if-ready .ensures .0) ∙ c .before .before .before .before .before .before .before .before .before .before .before .if1 .left) .1)))
 
-done-requires-2 : tie.Need-done-requires-2
-done-requires-2 c κs = search needs
+wide-requires : tie.Need-wide-requires
+wide-requires c κs = search needs
+
+add-t27 : tie.Need-add-t27
+add-t27 c = search needs
 
 same-length : tie.Need-same-length
 same-length c = search needs
 
-returns-4 : tie.Need-returns-4
-unfolding bumpIfBy
-returns-4 c = let s = perhaps-some (c .before .before .before .before .before .before .before .before .before .before .before .before .before .before .before .before .before .before .before .before .before .before .before .before .before .before .args .list .now) (Done (whiteOf (fill (c .before .before .before .before .before .before .before .before .before .before .before .before .before .before .before .before .before .before .before .before .before .before .before .before .before .before .args .list .now) 0 (stateOf (c .before .before .before .before .before .before .before .before .before .before .before .before .before .before .before .before .before .before .before .before .before .before .before .before .before .before .args .nums) (c .before .before .before .before .before .before .before .before .before .before .before .before .before .before .before .before .before .before .before .before .before .before .before .before .before .before .args .held .now) (c .before .before .before .before .before .before .before .before .before .before .before .before .before .before .before .before .before .before .before .before .before .before .before .before .before .before .args .counts .now) (c .before .before .before .before .before .before .before .before .before .before .before .before .before .before .before .before .before .before .before .before .before .before .before .before .before .before .args .waiting .now))) + 1) 1 0 0) (fill (c .before .before .before .before .before .before .before .before .before .before .before .before .before .before .before .before .before .before .before .before .before .before .before .before .before .before .args .list .now) 0 (stateOf (c .before .before .before .before .before .before .before .before .before .before .before .before .before .before .before .before .before .before .before .before .before .before .before .before .before .before .args .nums) (c .before .before .before .before .before .before .before .before .before .before .before .before .before .before .before .before .before .before .before .before .before .before .before .before .before .before .args .held .now) (c .before .before .before .before .before .before .before .before .before .before .before .before .before .before .before .before .before .before .before .before .before .before .before .before .before .before .args .counts .now) (c .before .before .before .before .before .before .before .before .before .before .before .before .before .before .before .before .before .before .before .before .before .before .before .before .before .before .args .waiting .now))) (eqb (getD (nthOf (c .before .before .before .before .before .before .before .before .before .before .before .before .before .before .before .before .before .before .before .before .before .before .before .before .before .before .args .list .now) 0 (fill (c .before .before .before .before .before .before .before .before .before .before .before .before .before .before .before .before .before .before .before .before .before .before .before .before .before .before .args .list .now) 0 (stateOf (c .before .before .before .before .before .before .before .before .before .before .before .before .before .before .before .before .before .before .before .before .before .before .before .before .before .before .args .nums) (c .before .before .before .before .before .before .before .before .before .before .before .before .before .before .before .before .before .before .before .before .before .before .before .before .before .before .args .held .now) (c .before .before .before .before .before .before .before .before .before .before .before .before .before .before .before .before .before .before .before .before .before .before .before .before .before .before .args .counts .now) (c .before .before .before .before .before .before .before .before .before .before .before .before .before .before .before .before .before .before .before .before .before .before .before .before .before .before .args .waiting .now)))) 0 0) (c .before .before .before .before .before .before .before .before .before .before .before .before .before .before .before .before .before .before .before .before .before .before .before .before .before .before .args .kind)) (λ z. c .before .before .before .before .before .before .if3 .left ((c .before .before .before .before .before .before .before .before .before .before .before .before .before .wanted .ensures ∙ ap₂ (λ (k : ℕ) (ws : List ℕ). pick (eqb (getD ws 0 0) (c .before .before .before .before .before .before .before .before .before .before .before .before .before .before .before .before .before .before .before .before .before .before .before .before .before .before .args .kind)) (k + 1) 0) ((c .before .before .before .before .before .before .before .before .before .before .before .before .before .before .front-of .ensures .0 (c .before .before .before .before .before .before .before .before .before .before .before .before .before .before .before .before .before .before .before .before .before .before .before .before .before .before .args .waiting .now)) .0) ((c .before .before .before .before .before .before .before .before .before .before .before .before .before .before .front-of .ensures .0 (c .before .before .before .before .before .before .before .before .before .before .before .before .before .before .before .before .before .before .before .before .before .before .before .before .before .before .args .waiting .now)) .1)) ∙ z)) in rw (c .done2 .ensures) (parts-of (c .before .before .before .before .before .before .before .before .before .before .before .before .before .before .before .before .before .before .before .before .before .before .before .before .before .before .args .out .now) _ _ (s .0 ∙ stored-done (length (c .before .before .before .before .before .before .before .before .before .before .before .before .before .before .before .before .before .before .before .before .before .before .before .before .before .before .args .out .now)) (stateOf (c .before .before .before .before .before .before .before .before .before .before .before .before .before .before .before .before .before .before .before .before .before .before .before .before .before .before .args .nums) (c .before .before .before .before .before .before .before .before .before .before .before .before .before .before .before .before .before .before .before .before .before .before .before .before .before .before .args .held .now) (c .before .before .before .before .before .before .before .before .before .before .before .before .before .before .before .before .before .before .before .before .before .before .before .before .before .before .args .counts .now) (c .before .before .before .before .before .before .before .before .before .before .before .before .before .before .before .before .before .before .before .before .before .before .before .before .before .before .args .waiting .now)) (perhaps (c .before .before .before .before .before .before .before .before .before .before .before .before .before .before .before .before .before .before .before .before .before .before .before .before .before .before .args .list .now) (Done (whiteOf (fill (c .before .before .before .before .before .before .before .before .before .before .before .before .before .before .before .before .before .before .before .before .before .before .before .before .before .before .args .list .now) 0 (stateOf (c .before .before .before .before .before .before .before .before .before .before .before .before .before .before .before .before .before .before .before .before .before .before .before .before .before .before .args .nums) (c .before .before .before .before .before .before .before .before .before .before .before .before .before .before .before .before .before .before .before .before .before .before .before .before .before .before .args .held .now) (c .before .before .before .before .before .before .before .before .before .before .before .before .before .before .before .before .before .before .before .before .before .before .before .before .before .before .args .counts .now) (c .before .before .before .before .before .before .before .before .before .before .before .before .before .before .before .before .before .before .before .before .before .before .before .before .before .before .args .waiting .now))) + 1) 1 0 0) (fill (c .before .before .before .before .before .before .before .before .before .before .before .before .before .before .before .before .before .before .before .before .before .before .before .before .before .before .args .list .now) 0 (stateOf (c .before .before .before .before .before .before .before .before .before .before .before .before .before .before .before .before .before .before .before .before .before .before .before .before .before .before .args .nums) (c .before .before .before .before .before .before .before .before .before .before .before .before .before .before .before .before .before .before .before .before .before .before .before .before .before .before .args .held .now) (c .before .before .before .before .before .before .before .before .before .before .before .before .before .before .before .before .before .before .before .before .before .before .before .before .before .before .args .counts .now) (c .before .before .before .before .before .before .before .before .before .before .before .before .before .before .before .before .before .before .before .before .before .before .before .before .before .before .args .waiting .now))) (eqb (getD (nthOf (c .before .before .before .before .before .before .before .before .before .before .before .before .before .before .before .before .before .before .before .before .before .before .before .before .before .before .args .list .now) 0 (fill (c .before .before .before .before .before .before .before .before .before .before .before .before .before .before .before .before .before .before .before .before .before .before .before .before .before .before .args .list .now) 0 (stateOf (c .before .before .before .before .before .before .before .before .before .before .before .before .before .before .before .before .before .before .before .before .before .before .before .before .before .before .args .nums) (c .before .before .before .before .before .before .before .before .before .before .before .before .before .before .before .before .before .before .before .before .before .before .before .before .before .before .args .held .now) (c .before .before .before .before .before .before .before .before .before .before .before .before .before .before .before .before .before .before .before .before .before .before .before .before .before .before .args .counts .now) (c .before .before .before .before .before .before .before .before .before .before .before .before .before .before .before .before .before .before .before .before .before .before .before .before .before .before .args .waiting .now)))) 0 0) (c .before .before .before .before .before .before .before .before .before .before .before .before .before .before .before .before .before .before .before .before .before .before .before .before .before .before .args .kind))) (omega (arith, perhaps-length (c .before .before .before .before .before .before .before .before .before .before .before .before .before .before .before .before .before .before .before .before .before .before .before .before .before .before .args .list .now) (Done (whiteOf (fill (c .before .before .before .before .before .before .before .before .before .before .before .before .before .before .before .before .before .before .before .before .before .before .before .before .before .before .args .list .now) 0 (stateOf (c .before .before .before .before .before .before .before .before .before .before .before .before .before .before .before .before .before .before .before .before .before .before .before .before .before .before .args .nums) (c .before .before .before .before .before .before .before .before .before .before .before .before .before .before .before .before .before .before .before .before .before .before .before .before .before .before .args .held .now) (c .before .before .before .before .before .before .before .before .before .before .before .before .before .before .before .before .before .before .before .before .before .before .before .before .before .before .args .counts .now) (c .before .before .before .before .before .before .before .before .before .before .before .before .before .before .before .before .before .before .before .before .before .before .before .before .before .before .args .waiting .now))) + 1) 1 0 0) (fill (c .before .before .before .before .before .before .before .before .before .before .before .before .before .before .before .before .before .before .before .before .before .before .before .before .before .before .args .list .now) 0 (stateOf (c .before .before .before .before .before .before .before .before .before .before .before .before .before .before .before .before .before .before .before .before .before .before .before .before .before .before .args .nums) (c .before .before .before .before .before .before .before .before .before .before .before .before .before .before .before .before .before .before .before .before .before .before .before .before .before .before .args .held .now) (c .before .before .before .before .before .before .before .before .before .before .before .before .before .before .before .before .before .before .before .before .before .before .before .before .before .before .args .counts .now) (c .before .before .before .before .before .before .before .before .before .before .before .before .before .before .before .before .before .before .before .before .before .before .before .before .before .before .args .waiting .now))) (eqb (getD (nthOf (c .before .before .before .before .before .before .before .before .before .before .before .before .before .before .before .before .before .before .before .before .before .before .before .before .before .before .args .list .now) 0 (fill (c .before .before .before .before .before .before .before .before .before .before .before .before .before .before .before .before .before .before .before .before .before .before .before .before .before .before .args .list .now) 0 (stateOf (c .before .before .before .before .before .before .before .before .before .before .before .before .before .before .before .before .before .before .before .before .before .before .before .before .before .before .args .nums) (c .before .before .before .before .before .before .before .before .before .before .before .before .before .before .before .before .before .before .before .before .before .before .before .before .before .before .args .held .now) (c .before .before .before .before .before .before .before .before .before .before .before .before .before .before .before .before .before .before .before .before .before .before .before .before .before .before .args .counts .now) (c .before .before .before .before .before .before .before .before .before .before .before .before .before .before .before .before .before .before .before .before .before .before .before .before .before .before .args .waiting .now)))) 0 0) (c .before .before .before .before .before .before .before .before .before .before .before .before .before .before .before .before .before .before .before .before .before .before .before .before .before .before .args .kind)), (c .before .before .before .before .before .before .before .before .before .before .before .before .before .wanted .ensures ∙ ap₂ (λ (k : ℕ) (ws : List ℕ). pick (eqb (getD ws 0 0) (c .before .before .before .before .before .before .before .before .before .before .before .before .before .before .before .before .before .before .before .before .before .before .before .before .before .before .args .kind)) (k + 1) 0) ((c .before .before .before .before .before .before .before .before .before .before .before .before .before .before .front-of .ensures .0 (c .before .before .before .before .before .before .before .before .before .before .before .before .before .before .before .before .before .before .before .before .before .before .before .before .before .before .args .waiting .now)) .0) ((c .before .before .before .before .before .before .before .before .before .before .before .before .before .before .front-of .ensures .0 (c .before .before .before .before .before .before .before .before .before .before .before .before .before .before .before .before .before .before .before .before .before .before .before .before .before .before .args .waiting .now)) .1)), c .before .before .before .before .before .before .before .before .before .before .before .before .if2 .left)) ∙ unless-yes _ (stateOf (c .before .before .before .before .before .before .before .before .before .before .before .before .before .before .before .before .before .before .before .before .before .before .before .before .before .before .args .nums) (c .before .before .before .before .before .before .before .before .before .before .before .before .before .before .before .before .before .before .before .before .before .before .before .before .before .before .args .held .now) (c .before .before .before .before .before .before .before .before .before .before .before .before .before .before .before .before .before .before .before .before .before .before .before .before .before .before .args .counts .now) (c .before .before .before .before .before .before .before .before .before .before .before .before .before .before .before .before .before .before .before .before .before .before .before .before .before .before .args .waiting .now)) _ (c .before .before .before .before .before .before .before .before .before .before .before .before .before .before .before .before .before .before .before .before .fill-refusal .ensures) (storedBy (length (c .before .before .before .before .before .before .before .before .before .before .before .before .before .before .before .before .before .before .before .before .before .before .before .before .before .before .args .out .now)) (stateOf (c .before .before .before .before .before .before .before .before .before .before .before .before .before .before .before .before .before .before .before .before .before .before .before .before .before .before .args .nums) (c .before .before .before .before .before .before .before .before .before .before .before .before .before .before .before .before .before .before .before .before .before .before .before .before .before .before .args .held .now) (c .before .before .before .before .before .before .before .before .before .before .before .before .before .before .before .before .before .before .before .before .before .before .before .before .before .before .args .counts .now) (c .before .before .before .before .before .before .before .before .before .before .before .before .before .before .before .before .before .before .before .before .before .before .before .before .before .before .args .waiting .now)) (perhaps (c .before .before .before .before .before .before .before .before .before .before .before .before .before .before .before .before .before .before .before .before .before .before .before .before .before .before .args .list .now) (Done (whiteOf (fill (c .before .before .before .before .before .before .before .before .before .before .before .before .before .before .before .before .before .before .before .before .before .before .before .before .before .before .args .list .now) 0 (stateOf (c .before .before .before .before .before .before .before .before .before .before .before .before .before .before .before .before .before .before .before .before .before .before .before .before .before .before .args .nums) (c .before .before .before .before .before .before .before .before .before .before .before .before .before .before .before .before .before .before .before .before .before .before .before .before .before .before .args .held .now) (c .before .before .before .before .before .before .before .before .before .before .before .before .before .before .before .before .before .before .before .before .before .before .before .before .before .before .args .counts .now) (c .before .before .before .before .before .before .before .before .before .before .before .before .before .before .before .before .before .before .before .before .before .before .before .before .before .before .args .waiting .now))) + 1) 1 0 0) (fill (c .before .before .before .before .before .before .before .before .before .before .before .before .before .before .before .before .before .before .before .before .before .before .before .before .before .before .args .list .now) 0 (stateOf (c .before .before .before .before .before .before .before .before .before .before .before .before .before .before .before .before .before .before .before .before .before .before .before .before .before .before .args .nums) (c .before .before .before .before .before .before .before .before .before .before .before .before .before .before .before .before .before .before .before .before .before .before .before .before .before .before .args .held .now) (c .before .before .before .before .before .before .before .before .before .before .before .before .before .before .before .before .before .before .before .before .before .before .before .before .before .before .args .counts .now) (c .before .before .before .before .before .before .before .before .before .before .before .before .before .before .before .before .before .before .before .before .before .before .before .before .before .before .args .waiting .now))) (eqb (getD (nthOf (c .before .before .before .before .before .before .before .before .before .before .before .before .before .before .before .before .before .before .before .before .before .before .before .before .before .before .args .list .now) 0 (fill (c .before .before .before .before .before .before .before .before .before .before .before .before .before .before .before .before .before .before .before .before .before .before .before .before .before .before .args .list .now) 0 (stateOf (c .before .before .before .before .before .before .before .before .before .before .before .before .before .before .before .before .before .before .before .before .before .before .before .before .before .before .args .nums) (c .before .before .before .before .before .before .before .before .before .before .before .before .before .before .before .before .before .before .before .before .before .before .before .before .before .before .args .held .now) (c .before .before .before .before .before .before .before .before .before .before .before .before .before .before .before .before .before .before .before .before .before .before .before .before .before .before .args .counts .now) (c .before .before .before .before .before .before .before .before .before .before .before .before .before .before .before .before .before .before .before .before .before .before .before .before .before .before .args .waiting .now)))) 0 0) (c .before .before .before .before .before .before .before .before .before .before .before .before .before .before .before .before .before .before .before .before .before .before .before .before .before .before .args .kind)))) (c .before .before .before .before .before .before .before .before .before .before .before .before .before .before .before .before .before .before .before .if1 .left)) _ _ _ (front-state (c .before .before .before .before .before .before .before .before .before .before .before .before .before .before .before .before .before .before .before .before .before .before .before .before .before .before .args .list .now) _ (fill (c .before .before .before .before .before .before .before .before .before .before .before .before .before .before .before .before .before .before .before .before .before .before .before .before .before .before .args .list .now) 0 (stateOf (c .before .before .before .before .before .before .before .before .before .before .before .before .before .before .before .before .before .before .before .before .before .before .before .before .before .before .args .nums) (c .before .before .before .before .before .before .before .before .before .before .before .before .before .before .before .before .before .before .before .before .before .before .before .before .before .before .args .held .now) (c .before .before .before .before .before .before .before .before .before .before .before .before .before .before .before .before .before .before .before .before .before .before .before .before .before .before .args .counts .now) (c .before .before .before .before .before .before .before .before .before .before .before .before .before .before .before .before .before .before .before .before .before .before .before .before .before .before .args .waiting .now))) (c .before .before .before .before .before .before .before .gathers-at .ensures ∙ ap (λ (k : ℕ). gathers (c .before .before .before .before .before .before .before .before .before .before .before .before .before .before .before .before .before .before .before .before .before .before .before .before .before .before .args .list .now) k (stateOf (c .before .before .before .before .before .before .before .before .before .before .before .before .before .before .before .before .before .before .before .before .before .before .before .before .before .before .args .nums) (c .before .before .before .before .before .before .before .before .before .before .before .before .before .before .before .before .before .before .before .before .before .before .before .before .before .before .args .held .now) (c .before .before .before .before .before .before .before .before .before .before .before .before .before .before .before .before .before .before .before .before .before .before .before .before .before .before .args .counts .now) (c .before .before .before .before .before .before .before .before .before .before .before .before .before .before .before .before .before .before .before .before .before .before .before .before .before .before .args .waiting .now))) (c .before .before .before .before .before .before .before .before .lacks .ensures)) _ ((c .before .before .before .before .before .before .before .before .before .before .before .before .before .before .front-of .ensures .0 (c .before .before .before .before .before .before .before .before .before .before .before .before .before .before .before .before .before .before .before .before .before .before .before .before .before .before .args .waiting .now)) .0) _ (c .before .before .before .emit-front .ensures .0), ap (λ (k : ℕ). Done k 1 0 0) ((c .before .before .before .before .before .before .before .before .before .before .before .before .before .wanted .ensures ∙ ap₂ (λ (k : ℕ) (ws : List ℕ). pick (eqb (getD ws 0 0) (c .before .before .before .before .before .before .before .before .before .before .before .before .before .before .before .before .before .before .before .before .before .before .before .before .before .before .args .kind)) (k + 1) 0) ((c .before .before .before .before .before .before .before .before .before .before .before .before .before .before .front-of .ensures .0 (c .before .before .before .before .before .before .before .before .before .before .before .before .before .before .before .before .before .before .before .before .before .before .before .before .before .before .args .waiting .now)) .0) ((c .before .before .before .before .before .before .before .before .before .before .before .before .before .before .front-of .ensures .0 (c .before .before .before .before .before .before .before .before .before .before .before .before .before .before .before .before .before .before .before .before .before .before .before .before .before .before .args .waiting .now)) .1)) ∙ sym (s .1)), c .before .before .before .emit-front .ensures .1 ∙ ap (sets (c .before .before .before .before .before .before .before .before .before .before .before .before .before .before .before .before .before .before .before .before .before .before .before .before .before .before .args .out .now) 0) (front-words (c .before .before .before .before .before .before .before .before .before .before .before .before .before .before .before .before .before .before .before .before .before .before .before .before .before .before .args .list .now) _ (fill (c .before .before .before .before .before .before .before .before .before .before .before .before .before .before .before .before .before .before .before .before .before .before .before .before .before .before .args .list .now) 0 (stateOf (c .before .before .before .before .before .before .before .before .before .before .before .before .before .before .before .before .before .before .before .before .before .before .before .before .before .before .args .nums) (c .before .before .before .before .before .before .before .before .before .before .before .before .before .before .before .before .before .before .before .before .before .before .before .before .before .before .args .held .now) (c .before .before .before .before .before .before .before .before .before .before .before .before .before .before .before .before .before .before .before .before .before .before .before .before .before .before .args .counts .now) (c .before .before .before .before .before .before .before .before .before .before .before .before .before .before .before .before .before .before .before .before .before .before .before .before .before .before .args .waiting .now))) (c .before .before .before .before .before .before .before .gathers-at .ensures ∙ ap (λ (k : ℕ). gathers (c .before .before .before .before .before .before .before .before .before .before .before .before .before .before .before .before .before .before .before .before .before .before .before .before .before .before .args .list .now) k (stateOf (c .before .before .before .before .before .before .before .before .before .before .before .before .before .before .before .before .before .before .before .before .before .before .before .before .before .before .args .nums) (c .before .before .before .before .before .before .before .before .before .before .before .before .before .before .before .before .before .before .before .before .before .before .before .before .before .before .args .held .now) (c .before .before .before .before .before .before .before .before .before .before .before .before .before .before .before .before .before .before .before .before .before .before .before .before .before .before .args .counts .now) (c .before .before .before .before .before .before .before .before .before .before .before .before .before .before .before .before .before .before .before .before .before .before .before .before .before .before .args .waiting .now))) (c .before .before .before .before .before .before .before .before .lacks .ensures)) _ ((c .before .before .before .before .before .before .before .before .before .before .before .before .before .before .front-of .ensures .0 (c .before .before .before .before .before .before .before .before .before .before .before .before .before .before .before .before .before .before .before .before .before .before .before .before .before .before .args .waiting .now)) .0) _ ((c .before .before .before .before .before .before .before .before .before .before .before .before .before .before .front-of .ensures .0 (c .before .before .before .before .before .before .before .before .before .before .before .before .before .before .before .before .before .before .before .before .before .before .before .before .before .before .args .waiting .now)) .1))))
+returns-3 : tie.Need-returns-3
+unfolding bumpIfBy needBy
+returns-3 c = parts-of (c .before .before .before .before .before .before .before .before .before .before .before .before .before .before .before .before .before .before .before .before .before .before .before .args .out .now) _ _ (ap (perhaps (c .before .before .before .before .before .before .before .before .before .before .before .before .before .before .before .before .before .before .before .before .before .before .before .args .list .now) (Done (whiteOf (fill (c .before .before .before .before .before .before .before .before .before .before .before .before .before .before .before .before .before .before .before .before .before .before .before .args .list .now) 0 (stateOf (numsOf (c .before .before .before .before .before .before .before .before .before .before .before .before .before .before .before .before .before .before .before .before .before .before .before .args .nums .now)) (c .before .before .before .before .before .before .before .before .before .before .before .before .before .before .before .before .before .before .before .before .before .before .before .args .held .now) (c .before .before .before .before .before .before .before .before .before .before .before .before .before .before .before .before .before .before .before .before .before .before .before .args .counts .now) (c .before .before .before .before .before .before .before .before .before .before .before .before .before .before .before .before .before .before .before .before .before .before .before .args .waiting .now))) + 1) 1 0 0) (fill (c .before .before .before .before .before .before .before .before .before .before .before .before .before .before .before .before .before .before .before .before .before .before .before .args .list .now) 0 (stateOf (numsOf (c .before .before .before .before .before .before .before .before .before .before .before .before .before .before .before .before .before .before .before .before .before .before .before .args .nums .now)) (c .before .before .before .before .before .before .before .before .before .before .before .before .before .before .before .before .before .before .before .before .before .before .before .args .held .now) (c .before .before .before .before .before .before .before .before .before .before .before .before .before .before .before .before .before .before .before .before .before .before .before .args .counts .now) (c .before .before .before .before .before .before .before .before .before .before .before .before .before .before .before .before .before .before .before .before .before .before .before .args .waiting .now)))) (sym (eq-eqb (getD (nthOf (c .before .before .before .before .before .before .before .before .before .before .before .before .before .before .before .before .before .before .before .before .before .before .before .args .list .now) 0 (fill (c .before .before .before .before .before .before .before .before .before .before .before .before .before .before .before .before .before .before .before .before .before .before .before .args .list .now) 0 (stateOf (numsOf (c .before .before .before .before .before .before .before .before .before .before .before .before .before .before .before .before .before .before .before .before .before .before .before .args .nums .now)) (c .before .before .before .before .before .before .before .before .before .before .before .before .before .before .before .before .before .before .before .before .before .before .before .args .held .now) (c .before .before .before .before .before .before .before .before .before .before .before .before .before .before .before .before .before .before .before .before .before .before .before .args .counts .now) (c .before .before .before .before .before .before .before .before .before .before .before .before .before .before .before .before .before .before .before .before .before .before .before .args .waiting .now)))) 0 0) (c .before .before .before .before .before .before .before .before .before .before .before .before .before .before .before .before .before .before .before .before .before .before .before .args .kind) (sym (ap (λ (ws : List ℕ). getD ws 0 0) (c .before .before .before .before .before .before .before .before .before .before .before .before .nth-words .ensures ∙ ap (nthOf (c .before .before .before .before .before .before .before .before .before .before .before .before .before .before .before .before .before .before .before .before .before .before .before .args .list .now) 0) (c .before .before .before .before .before .before .before .before .before .before .before .before .before .before .before .before .bump-if-ready .ensures .1 ∙ sym (room-filled (c .before .before .before .before .before .before .before .before .before .before .before .before .before .before .before .before .before .before .before .before .before .before .before .args .tested) (c .before .before .before .before .before .before .before .before .before .before .before .before .before .before .before .before .before .before .before .before .before .before .before .args .list .now) 2 (c .before .before .before .before .before .before .before .before .before .before .before .before .before .before .before .before .before .before .before .before .before .before .before .args .kind) (length (c .before .before .before .before .before .before .before .before .before .before .before .before .before .before .before .before .before .before .before .before .before .before .before .args .out .now)) (stateOf (numsOf (c .before .before .before .before .before .before .before .before .before .before .before .before .before .before .before .before .before .before .before .before .before .before .before .args .nums .now)) (c .before .before .before .before .before .before .before .before .before .before .before .before .before .before .before .before .before .before .before .before .before .before .before .args .held .now) (c .before .before .before .before .before .before .before .before .before .before .before .before .before .before .before .before .before .before .before .before .before .before .before .args .counts .now) (c .before .before .before .before .before .before .before .before .before .before .before .before .before .before .before .before .before .before .before .before .before .before .before .args .waiting .now)) _ (c .before .before .before .before .before .before .before .before .before .before .before .before .before .before .before .before .bump-if-ready .ensures .0) (c .before .before .before .before .before .before .before .before .before .before .before .before .before .before .before .if1 .left))))) ∙ c .before .before .before .before .before .before .before .before .before .before .if2 .left))) ∙ room-yes (c .before .before .before .before .before .before .before .before .before .before .before .before .before .before .before .before .before .before .before .before .before .before .before .args .tested) (c .before .before .before .before .before .before .before .before .before .before .before .before .before .before .before .before .before .before .before .before .before .before .before .args .list .now) 2 (c .before .before .before .before .before .before .before .before .before .before .before .before .before .before .before .before .before .before .before .before .before .before .before .args .kind) (length (c .before .before .before .before .before .before .before .before .before .before .before .before .before .before .before .before .before .before .before .before .before .before .before .args .out .now)) (stateOf (numsOf (c .before .before .before .before .before .before .before .before .before .before .before .before .before .before .before .before .before .before .before .before .before .before .before .args .nums .now)) (c .before .before .before .before .before .before .before .before .before .before .before .before .before .before .before .before .before .before .before .before .before .before .before .args .held .now) (c .before .before .before .before .before .before .before .before .before .before .before .before .before .before .before .before .before .before .before .before .before .before .before .args .counts .now) (c .before .before .before .before .before .before .before .before .before .before .before .before .before .before .before .before .before .before .before .before .before .before .before .args .waiting .now)) _ (c .before .before .before .before .before .before .before .before .before .before .before .before .before .before .before .before .bump-if-ready .ensures .0) (perhaps (c .before .before .before .before .before .before .before .before .before .before .before .before .before .before .before .before .before .before .before .before .before .before .before .args .list .now) (Done (whiteOf (fill (c .before .before .before .before .before .before .before .before .before .before .before .before .before .before .before .before .before .before .before .before .before .before .before .args .list .now) 0 (stateOf (numsOf (c .before .before .before .before .before .before .before .before .before .before .before .before .before .before .before .before .before .before .before .before .before .before .before .args .nums .now)) (c .before .before .before .before .before .before .before .before .before .before .before .before .before .before .before .before .before .before .before .before .before .before .before .args .held .now) (c .before .before .before .before .before .before .before .before .before .before .before .before .before .before .before .before .before .before .before .before .before .before .before .args .counts .now) (c .before .before .before .before .before .before .before .before .before .before .before .before .before .before .before .before .before .before .before .before .before .before .before .args .waiting .now))) + 1) 1 0 0) (fill (c .before .before .before .before .before .before .before .before .before .before .before .before .before .before .before .before .before .before .before .before .before .before .before .args .list .now) 0 (stateOf (numsOf (c .before .before .before .before .before .before .before .before .before .before .before .before .before .before .before .before .before .before .before .before .before .before .before .args .nums .now)) (c .before .before .before .before .before .before .before .before .before .before .before .before .before .before .before .before .before .before .before .before .before .before .before .args .held .now) (c .before .before .before .before .before .before .before .before .before .before .before .before .before .before .before .before .before .before .before .before .before .before .before .args .counts .now) (c .before .before .before .before .before .before .before .before .before .before .before .before .before .before .before .before .before .before .before .before .before .before .before .args .waiting .now))) (eqb (getD (nthOf (c .before .before .before .before .before .before .before .before .before .before .before .before .before .before .before .before .before .before .before .before .before .before .before .args .list .now) 0 (fill (c .before .before .before .before .before .before .before .before .before .before .before .before .before .before .before .before .before .before .before .before .before .before .before .args .list .now) 0 (stateOf (numsOf (c .before .before .before .before .before .before .before .before .before .before .before .before .before .before .before .before .before .before .before .before .before .before .before .args .nums .now)) (c .before .before .before .before .before .before .before .before .before .before .before .before .before .before .before .before .before .before .before .before .before .before .before .args .held .now) (c .before .before .before .before .before .before .before .before .before .before .before .before .before .before .before .before .before .before .before .before .before .before .before .args .counts .now) (c .before .before .before .before .before .before .before .before .before .before .before .before .before .before .before .before .before .before .before .before .before .before .before .args .waiting .now)))) 0 0) (c .before .before .before .before .before .before .before .before .before .before .before .before .before .before .before .before .before .before .before .before .before .before .before .args .kind))) (perhaps-need (c .before .before .before .before .before .before .before .before .before .before .before .before .before .before .before .before .before .before .before .before .before .before .before .args .list .now) (Done (whiteOf (fill (c .before .before .before .before .before .before .before .before .before .before .before .before .before .before .before .before .before .before .before .before .before .before .before .args .list .now) 0 (stateOf (numsOf (c .before .before .before .before .before .before .before .before .before .before .before .before .before .before .before .before .before .before .before .before .before .before .before .args .nums .now)) (c .before .before .before .before .before .before .before .before .before .before .before .before .before .before .before .before .before .before .before .before .before .before .before .args .held .now) (c .before .before .before .before .before .before .before .before .before .before .before .before .before .before .before .before .before .before .before .before .before .before .before .args .counts .now) (c .before .before .before .before .before .before .before .before .before .before .before .before .before .before .before .before .before .before .before .before .before .before .before .args .waiting .now))) + 1) 1 0 0) (fill (c .before .before .before .before .before .before .before .before .before .before .before .before .before .before .before .before .before .before .before .before .before .before .before .args .list .now) 0 (stateOf (numsOf (c .before .before .before .before .before .before .before .before .before .before .before .before .before .before .before .before .before .before .before .before .before .before .before .args .nums .now)) (c .before .before .before .before .before .before .before .before .before .before .before .before .before .before .before .before .before .before .before .before .before .before .before .args .held .now) (c .before .before .before .before .before .before .before .before .before .before .before .before .before .before .before .before .before .before .before .before .before .before .before .args .counts .now) (c .before .before .before .before .before .before .before .before .before .before .before .before .before .before .before .before .before .before .before .before .before .before .before .args .waiting .now))) (eqb (getD (nthOf (c .before .before .before .before .before .before .before .before .before .before .before .before .before .before .before .before .before .before .before .before .before .before .before .args .list .now) 0 (fill (c .before .before .before .before .before .before .before .before .before .before .before .before .before .before .before .before .before .before .before .before .before .before .before .args .list .now) 0 (stateOf (numsOf (c .before .before .before .before .before .before .before .before .before .before .before .before .before .before .before .before .before .before .before .before .before .before .before .args .nums .now)) (c .before .before .before .before .before .before .before .before .before .before .before .before .before .before .before .before .before .before .before .before .before .before .before .args .held .now) (c .before .before .before .before .before .before .before .before .before .before .before .before .before .before .before .before .before .before .before .before .before .before .before .args .counts .now) (c .before .before .before .before .before .before .before .before .before .before .before .before .before .before .before .before .before .before .before .before .before .before .before .args .waiting .now)))) 0 0) (c .before .before .before .before .before .before .before .before .before .before .before .before .before .before .before .before .before .before .before .before .before .before .before .args .kind))) (c .before .before .before .before .before .before .before .before .before .before .before .before .before .before .before .if1 .left)) _ _ _ (front-state (c .before .before .before .before .before .before .before .before .before .before .before .before .before .before .before .before .before .before .before .before .before .before .before .args .list .now) _ (fill (c .before .before .before .before .before .before .before .before .before .before .before .before .before .before .before .before .before .before .before .before .before .before .before .args .list .now) 0 (stateOf (numsOf (c .before .before .before .before .before .before .before .before .before .before .before .before .before .before .before .before .before .before .before .before .before .before .before .args .nums .now)) (c .before .before .before .before .before .before .before .before .before .before .before .before .before .before .before .before .before .before .before .before .before .before .before .args .held .now) (c .before .before .before .before .before .before .before .before .before .before .before .before .before .before .before .before .before .before .before .before .before .before .before .args .counts .now) (c .before .before .before .before .before .before .before .before .before .before .before .before .before .before .before .before .before .before .before .before .before .before .before .args .waiting .now))) (c .before .before .before .before .before .before .before .before .before .before .before .before .before .before .before .before .bump-if-ready .ensures .1 ∙ sym (room-filled (c .before .before .before .before .before .before .before .before .before .before .before .before .before .before .before .before .before .before .before .before .before .before .before .args .tested) (c .before .before .before .before .before .before .before .before .before .before .before .before .before .before .before .before .before .before .before .before .before .before .before .args .list .now) 2 (c .before .before .before .before .before .before .before .before .before .before .before .before .before .before .before .before .before .before .before .before .before .before .before .args .kind) (length (c .before .before .before .before .before .before .before .before .before .before .before .before .before .before .before .before .before .before .before .before .before .before .before .args .out .now)) (stateOf (numsOf (c .before .before .before .before .before .before .before .before .before .before .before .before .before .before .before .before .before .before .before .before .before .before .before .args .nums .now)) (c .before .before .before .before .before .before .before .before .before .before .before .before .before .before .before .before .before .before .before .before .before .before .before .args .held .now) (c .before .before .before .before .before .before .before .before .before .before .before .before .before .before .before .before .before .before .before .before .before .before .before .args .counts .now) (c .before .before .before .before .before .before .before .before .before .before .before .before .before .before .before .before .before .before .before .before .before .before .before .args .waiting .now)) _ (c .before .before .before .before .before .before .before .before .before .before .before .before .before .before .before .before .bump-if-ready .ensures .0) (c .before .before .before .before .before .before .before .before .before .before .before .before .before .before .before .if1 .left))) _ (c .before .before .before .before .before .before .before .white-now .ensures ∙ ap whiteOf (c .before .before .before .before .before .before .before .before .before .before .before .before .before .before .before .before .bump-if-ready .ensures .1 ∙ sym (room-filled (c .before .before .before .before .before .before .before .before .before .before .before .before .before .before .before .before .before .before .before .before .before .before .before .args .tested) (c .before .before .before .before .before .before .before .before .before .before .before .before .before .before .before .before .before .before .before .before .before .before .before .args .list .now) 2 (c .before .before .before .before .before .before .before .before .before .before .before .before .before .before .before .before .before .before .before .before .before .before .before .args .kind) (length (c .before .before .before .before .before .before .before .before .before .before .before .before .before .before .before .before .before .before .before .before .before .before .before .args .out .now)) (stateOf (numsOf (c .before .before .before .before .before .before .before .before .before .before .before .before .before .before .before .before .before .before .before .before .before .before .before .args .nums .now)) (c .before .before .before .before .before .before .before .before .before .before .before .before .before .before .before .before .before .before .before .before .before .before .before .args .held .now) (c .before .before .before .before .before .before .before .before .before .before .before .before .before .before .before .before .before .before .before .before .before .before .before .args .counts .now) (c .before .before .before .before .before .before .before .before .before .before .before .before .before .before .before .before .before .before .before .before .before .before .before .args .waiting .now)) _ (c .before .before .before .before .before .before .before .before .before .before .before .before .before .before .before .before .bump-if-ready .ensures .0) (c .before .before .before .before .before .before .before .before .before .before .before .before .before .before .before .if1 .left)))) _ (c .before .before .before .emit-front .ensures .0), ap (λ (k : ℕ). Done (k + 1) 1 0 0) (c .wide .ensures .0 ∙ (c .before .before .before .before .before .before .before .white-now .ensures ∙ ap whiteOf (c .before .before .before .before .before .before .before .before .before .before .before .before .before .before .before .before .bump-if-ready .ensures .1 ∙ sym (room-filled (c .before .before .before .before .before .before .before .before .before .before .before .before .before .before .before .before .before .before .before .before .before .before .before .args .tested) (c .before .before .before .before .before .before .before .before .before .before .before .before .before .before .before .before .before .before .before .before .before .before .before .args .list .now) 2 (c .before .before .before .before .before .before .before .before .before .before .before .before .before .before .before .before .before .before .before .before .before .before .before .args .kind) (length (c .before .before .before .before .before .before .before .before .before .before .before .before .before .before .before .before .before .before .before .before .before .before .before .args .out .now)) (stateOf (numsOf (c .before .before .before .before .before .before .before .before .before .before .before .before .before .before .before .before .before .before .before .before .before .before .before .args .nums .now)) (c .before .before .before .before .before .before .before .before .before .before .before .before .before .before .before .before .before .before .before .before .before .before .before .args .held .now) (c .before .before .before .before .before .before .before .before .before .before .before .before .before .before .before .before .before .before .before .before .before .before .before .args .counts .now) (c .before .before .before .before .before .before .before .before .before .before .before .before .before .before .before .before .before .before .before .before .before .before .before .args .waiting .now)) _ (c .before .before .before .before .before .before .before .before .before .before .before .before .before .before .before .before .bump-if-ready .ensures .0) (c .before .before .before .before .before .before .before .before .before .before .before .before .before .before .before .if1 .left))))), c .before .before .before .emit-front .ensures .1 ∙ ap (sets (c .before .before .before .before .before .before .before .before .before .before .before .before .before .before .before .before .before .before .before .before .before .before .before .args .out .now) 0) (front-words (c .before .before .before .before .before .before .before .before .before .before .before .before .before .before .before .before .before .before .before .before .before .before .before .args .list .now) _ (fill (c .before .before .before .before .before .before .before .before .before .before .before .before .before .before .before .before .before .before .before .before .before .before .before .args .list .now) 0 (stateOf (numsOf (c .before .before .before .before .before .before .before .before .before .before .before .before .before .before .before .before .before .before .before .before .before .before .before .args .nums .now)) (c .before .before .before .before .before .before .before .before .before .before .before .before .before .before .before .before .before .before .before .before .before .before .before .args .held .now) (c .before .before .before .before .before .before .before .before .before .before .before .before .before .before .before .before .before .before .before .before .before .before .before .args .counts .now) (c .before .before .before .before .before .before .before .before .before .before .before .before .before .before .before .before .before .before .before .before .before .before .before .args .waiting .now))) (c .before .before .before .before .before .before .before .before .before .before .before .before .before .before .before .before .bump-if-ready .ensures .1 ∙ sym (room-filled (c .before .before .before .before .before .before .before .before .before .before .before .before .before .before .before .before .before .before .before .before .before .before .before .args .tested) (c .before .before .before .before .before .before .before .before .before .before .before .before .before .before .before .before .before .before .before .before .before .before .before .args .list .now) 2 (c .before .before .before .before .before .before .before .before .before .before .before .before .before .before .before .before .before .before .before .before .before .before .before .args .kind) (length (c .before .before .before .before .before .before .before .before .before .before .before .before .before .before .before .before .before .before .before .before .before .before .before .args .out .now)) (stateOf (numsOf (c .before .before .before .before .before .before .before .before .before .before .before .before .before .before .before .before .before .before .before .before .before .before .before .args .nums .now)) (c .before .before .before .before .before .before .before .before .before .before .before .before .before .before .before .before .before .before .before .before .before .before .before .args .held .now) (c .before .before .before .before .before .before .before .before .before .before .before .before .before .before .before .before .before .before .before .before .before .before .before .args .counts .now) (c .before .before .before .before .before .before .before .before .before .before .before .before .before .before .before .before .before .before .before .before .before .before .before .args .waiting .now)) _ (c .before .before .before .before .before .before .before .before .before .before .before .before .before .before .before .before .bump-if-ready .ensures .0) (c .before .before .before .before .before .before .before .before .before .before .before .before .before .before .before .if1 .left))) _ (c .before .before .before .before .before .before .before .white-now .ensures ∙ ap whiteOf (c .before .before .before .before .before .before .before .before .before .before .before .before .before .before .before .before .bump-if-ready .ensures .1 ∙ sym (room-filled (c .before .before .before .before .before .before .before .before .before .before .before .before .before .before .before .before .before .before .before .before .before .before .before .args .tested) (c .before .before .before .before .before .before .before .before .before .before .before .before .before .before .before .before .before .before .before .before .before .before .before .args .list .now) 2 (c .before .before .before .before .before .before .before .before .before .before .before .before .before .before .before .before .before .before .before .before .before .before .before .args .kind) (length (c .before .before .before .before .before .before .before .before .before .before .before .before .before .before .before .before .before .before .before .before .before .before .before .args .out .now)) (stateOf (numsOf (c .before .before .before .before .before .before .before .before .before .before .before .before .before .before .before .before .before .before .before .before .before .before .before .args .nums .now)) (c .before .before .before .before .before .before .before .before .before .before .before .before .before .before .before .before .before .before .before .before .before .before .before .args .held .now) (c .before .before .before .before .before .before .before .before .before .before .before .before .before .before .before .before .before .before .before .before .before .before .before .args .counts .now) (c .before .before .before .before .before .before .before .before .before .before .before .before .before .before .before .before .before .before .before .before .before .before .before .args .waiting .now)) _ (c .before .before .before .before .before .before .before .before .before .before .before .before .before .before .before .before .bump-if-ready .ensures .0) (c .before .before .before .before .before .before .before .before .before .before .before .before .before .before .before .if1 .left)))) _ (c .before .before .before .before .before .before .before .before .before .before .before .before .nth-words .ensures ∙ ap (nthOf (c .before .before .before .before .before .before .before .before .before .before .before .before .before .before .before .before .before .before .before .before .before .before .before .args .list .now) 0) (c .before .before .before .before .before .before .before .before .before .before .before .before .before .before .before .before .bump-if-ready .ensures .1 ∙ sym (room-filled (c .before .before .before .before .before .before .before .before .before .before .before .before .before .before .before .before .before .before .before .before .before .before .before .args .tested) (c .before .before .before .before .before .before .before .before .before .before .before .before .before .before .before .before .before .before .before .before .before .before .before .args .list .now) 2 (c .before .before .before .before .before .before .before .before .before .before .before .before .before .before .before .before .before .before .before .before .before .before .before .args .kind) (length (c .before .before .before .before .before .before .before .before .before .before .before .before .before .before .before .before .before .before .before .before .before .before .before .args .out .now)) (stateOf (numsOf (c .before .before .before .before .before .before .before .before .before .before .before .before .before .before .before .before .before .before .before .before .before .before .before .args .nums .now)) (c .before .before .before .before .before .before .before .before .before .before .before .before .before .before .before .before .before .before .before .before .before .before .before .args .held .now) (c .before .before .before .before .before .before .before .before .before .before .before .before .before .before .before .before .before .before .before .before .before .before .before .args .counts .now) (c .before .before .before .before .before .before .before .before .before .before .before .before .before .before .before .before .before .before .before .before .before .before .before .args .waiting .now)) _ (c .before .before .before .before .before .before .before .before .before .before .before .before .before .before .before .before .bump-if-ready .ensures .0) (c .before .before .before .before .before .before .before .before .before .before .before .before .before .before .before .if1 .left))))))
 
 pub bump-if-at-spec : {M : Type 1} → statement M
 bump-if-at-spec =
     tie.close
     (tie.spec
-    fill-refusal-requires
-    refuse-requires
+    bump-if-ready-requires
     returns
-    front-of-requires
-    wanted-requires
-    refuse-requires-2
+    nth-words-requires
+    nothing-requires
     returns-2
-    lacks-requires
-    gathers-at-requires
-    done-requires
-    returns-3
+    white-now-requires
     emit-front-requires
-    done-requires-2
+    wide-requires
+    add-t27
     same-length
-    returns-4)
+    returns-3)

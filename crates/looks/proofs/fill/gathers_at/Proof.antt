@@ -1,28 +1,32 @@
 use Prim.Native.Nat.{ℕ, _-_}
-use mathlib.Core.Path.{_≡_, refl, sym, ap, ap₂, _∙_}
+use mathlib.Core.Path.{_≡_, refl, sym, ap, ap₂, _∙_, subst}
 use borrow.Author.Needs.{needs}
-use Rattle.looks.proofs.Gathers.{Filling, filling-first, filling-more, filling-to, gathers-end, gathers-more}
-use Rattle.looks.specs.Buffer.{State, fill, gatherAt, gathers, stateOf}
+use Rattle.looks.proofs.Gathers.{gatherable-more, gatherable-to, gathers-end, gathers-more}
+use Rattle.looks.specs.Buffer.{Gatherable, State, fill, gatherAt, gathers, numsOf, stateOf}
+use Rattle.looks.specs.declared.state.Nums.{Nums}
 use Rattle.looks.proofs.fill.gathers_at.Statement.{statement}
 use Rattle.looks.proofs.fill.gathers_at.Tie as tie
 
 abbrev Inv-loop : tie.InvT-loop
-Inv-loop held₀ counts₀ waiting₀ times list count n₀ left₀ held counts waiting n left = Filling list left n × (gathers list left (stateOf n held counts waiting) ≡ gathers list left₀ (stateOf n₀ held₀ counts₀ waiting₀))
+Inv-loop nums₀ held₀ counts₀ waiting₀ times list count left₀ nums held counts waiting left = Gatherable list left (numsOf nums) × (gathers list left (stateOf (numsOf nums) held counts waiting) ≡ gathers list left₀ (stateOf (numsOf nums₀) held₀ counts₀ waiting₀))
 
 abbrev μ-loop : tie.MeasureT-loop
-μ-loop held₀ counts₀ waiting₀ times list count n₀ left₀ held counts waiting n left = left
+μ-loop nums₀ held₀ counts₀ waiting₀ times list count left₀ nums held counts waiting left = left
 
 count-of-requires : tie.Need-count-of-requires Inv-loop μ-loop
 count-of-requires c κs = search needs
 
 loop-holds : tie.Need-loop-holds Inv-loop μ-loop
-loop-holds c = (filling-first (c .before .before .args .list .now) _ _ (c .before .before .pre .0) (c .before .before .pre .1) (c .before .before .pre .2) (c .before .before .pre .3), refl)
+loop-holds c = (c .before .before .pre, refl)
+
+element-copy-out-next-dark : tie.Need-element-copy-out-next-dark Inv-loop μ-loop
+element-copy-out-next-dark c = search needs
 
 next-dark-requires : tie.Need-next-dark-requires Inv-loop μ-loop
 next-dark-requires c κs = search needs
 
 gather-at-requires : tie.Need-gather-at-requires Inv-loop μ-loop
-gather-at-requires c κs = (rw (c .before .before .before .next-dark .ensures) (filling-to (c .before .before .before .before .before .before .before .before .args .list .now) (c .before .before .before .before .before .loop .left) (c .before .before .before .before .before .loop .n) (c .before .before .before .before .before .loop .inv .0) .0), c .before .before .before .before .before .loop .inv .0 .roomy)
+gather-at-requires c κs = (rw (c .before .before .before .before .next-dark .ensures) ((gatherable-to (c .before .before .before .before .before .before .before .before .before .before .args .list .now) (c .before .before .before .before .before .before .before .loop .left) (c .before .before .before .before .before .before .loop-test .taken) (numsOf (c .before .before .before .before .before .before .before .loop .nums)) (c .before .before .before .before .before .before .before .loop .inv .0)) .0), c .before .before .before .before .before .before .before .loop .inv .0 .roomy, rw (c .before .before .before .before .next-dark .ensures) ((gatherable-to (c .before .before .before .before .before .before .before .before .before .before .args .list .now) (c .before .before .before .before .before .before .before .loop .left) (c .before .before .before .before .before .before .loop-test .taken) (numsOf (c .before .before .before .before .before .before .before .loop .nums)) (c .before .before .before .before .before .before .before .loop .inv .0)) .1))
 
 sub-left : tie.Need-sub-left Inv-loop μ-loop
 sub-left c = search needs
@@ -32,7 +36,7 @@ loop-less c = search needs
 
 loop-again : tie.Need-loop-again Inv-loop μ-loop
 unfolding gatherAt
-loop-again c = (rw (ap (λ (a : State). a .nums) (c .gather-at .ensures ∙ ap₂ (λ (p k : ℕ). gatherAt p k (stateOf (c .before .before .before .before .before .before .loop .n) (c .before .before .before .before .before .before .loop .held) (c .before .before .before .before .before .before .loop .counts) (c .before .before .before .before .before .before .loop .waiting))) (c .before .before .before .before .next-dark .ensures) (c .before .before .before .before .before .before .before .count-of .ensures))) (filling-more (c .before .before .before .before .before .before .before .before .before .args .list .now) (c .before .before .before .before .before .before .loop .left) (c .before .before .before .before .before .before .loop .n) (c .before .before .before .before .before .before .loop .inv .0) (c .before .before .before .before .before .loop-test .taken)), ap (gathers (c .before .before .before .before .before .before .before .before .before .args .list .now) ((c .before .before .before .before .before .before .loop .left) - 1)) (c .gather-at .ensures ∙ ap₂ (λ (p k : ℕ). gatherAt p k (stateOf (c .before .before .before .before .before .before .loop .n) (c .before .before .before .before .before .before .loop .held) (c .before .before .before .before .before .before .loop .counts) (c .before .before .before .before .before .before .loop .waiting))) (c .before .before .before .before .next-dark .ensures) (c .before .before .before .before .before .before .before .count-of .ensures)) ∙ sym (gathers-more (c .before .before .before .before .before .before .before .before .before .args .list .now) (c .before .before .before .before .before .before .loop .left) (c .before .before .before .before .before .loop-test .taken) (stateOf (c .before .before .before .before .before .before .loop .n) (c .before .before .before .before .before .before .loop .held) (c .before .before .before .before .before .before .loop .counts) (c .before .before .before .before .before .before .loop .waiting))) ∙ c .before .before .before .before .before .before .loop .inv .1)
+loop-again c = (subst (λ (n : Nums). Gatherable (c .before .before .before .before .before .before .before .before .before .before .before .args .list .now) ((c .before .before .before .before .before .before .before .before .loop .left) - 1) n) (sym (ap (λ (a : State). a .nums) (c .gather-at .ensures ∙ ap₂ (λ (p k : ℕ). gatherAt p k (stateOf (numsOf (c .before .before .before .before .before .before .before .before .loop .nums)) (c .before .before .before .before .before .before .before .before .loop .held) (c .before .before .before .before .before .before .before .before .loop .counts) (c .before .before .before .before .before .before .before .before .loop .waiting))) (c .before .before .before .before .before .next-dark .ensures) (c .before .before .before .before .before .before .before .before .before .count-of .ensures)))) (gatherable-more (c .before .before .before .before .before .before .before .before .before .before .before .args .list .now) (c .before .before .before .before .before .before .before .before .loop .left) (c .before .before .before .before .before .before .before .loop-test .taken) (numsOf (c .before .before .before .before .before .before .before .before .loop .nums)) (c .before .before .before .before .before .before .before .before .loop .inv .0)), ap (gathers (c .before .before .before .before .before .before .before .before .before .before .before .args .list .now) ((c .before .before .before .before .before .before .before .before .loop .left) - 1)) (c .gather-at .ensures ∙ ap₂ (λ (p k : ℕ). gatherAt p k (stateOf (numsOf (c .before .before .before .before .before .before .before .before .loop .nums)) (c .before .before .before .before .before .before .before .before .loop .held) (c .before .before .before .before .before .before .before .before .loop .counts) (c .before .before .before .before .before .before .before .before .loop .waiting))) (c .before .before .before .before .before .next-dark .ensures) (c .before .before .before .before .before .before .before .before .before .count-of .ensures)) ∙ sym (gathers-more (c .before .before .before .before .before .before .before .before .before .before .before .args .list .now) (c .before .before .before .before .before .before .before .before .loop .left) (c .before .before .before .before .before .before .before .loop-test .taken) (stateOf (numsOf (c .before .before .before .before .before .before .before .before .loop .nums)) (c .before .before .before .before .before .before .before .before .loop .held) (c .before .before .before .before .before .before .before .before .loop .counts) (c .before .before .before .before .before .before .before .before .loop .waiting))) ∙ c .before .before .before .before .before .before .before .before .loop .inv .1)
 
 returns : tie.Need-returns Inv-loop μ-loop
 returns c = sym (gathers-end (c .before .before .before .before .args .list .now) (c .before .loop .left) _ (c .loop-test .left)) ∙ c .before .loop .inv .1
@@ -45,6 +49,7 @@ gathers-at-spec =
     μ-loop
     count-of-requires
     loop-holds
+    element-copy-out-next-dark
     next-dark-requires
     gather-at-requires
     sub-left

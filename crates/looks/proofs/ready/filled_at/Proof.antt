@@ -1,31 +1,30 @@
-use Prim.Native.Nat.{ℕ, _+_}
-use mathlib.Core.Path.{sym, ap, _∙_}
+use Prim.Native.Nat.{ℕ}
+use mathlib.Core.Path.{_≡_, sym, ap, _∙_}
 use native.Mathlib.Omega.{arith}
 use borrow.Author.Needs.{needs}
-use Rattle.looks.proofs.Answers.{filled-no, filled-yes, ready-for, refusal-none, sound-bounded}
-use Rattle.looks.specs.Buffer.{gathers, stateOf}
+use borrow.Author.Tests.{not-false, not-true}
+use Rattle.looks.proofs.Answers.{filled-no, refusal-34}
+use Rattle.looks.specs.Buffer.{numsOf, stateOf}
+use Rattle.looks.specs.Sound.{soundBy}
+use Rattle.looks.specs.declared.state.Nums.{Nums}
 use Rattle.looks.proofs.ready.filled_at.Statement.{statement}
 use Rattle.looks.proofs.ready.filled_at.Tie as tie
 
-fill-refusal-requires : tie.Need-fill-refusal-requires
-fill-refusal-requires c κs = search needs
+nums-of-requires : tie.Need-nums-of-requires
+nums-of-requires c κs = search needs
+
+sound-requires : tie.Need-sound-requires
+sound-requires c κs = search needs
 
 returns : tie.Need-returns
-returns c = (c .before .fill-refusal .ensures, filled-no (c .before .before .before .before .before .before .args .tested) (c .before .before .before .before .before .before .args .list .now) (c .before .before .before .before .before .before .args .n) (stateOf (c .before .before .before .before .before .before .args .nums) (c .before .before .before .before .before .before .args .held .now) (c .before .before .before .before .before .before .args .counts .now) (c .before .before .before .before .before .before .args .waiting .now)) _ (c .before .fill-refusal .ensures) (c .if1 .taken))
+returns c = ((refusal-34 (c .before .before .before .before .before .before .before .before .args .tested) (c .before .before .before .before .before .before .before .before .args .list .now) (c .before .before .before .before .before .before .before .before .args .n) (stateOf (numsOf (c .before .before .before .before .before .before .before .before .args .nums .now)) (c .before .before .before .before .before .before .before .before .args .held .now) (c .before .before .before .before .before .before .before .before .args .counts .now) (c .before .before .before .before .before .before .before .before .args .waiting .now)) (sym (c .before .sound .ensures ∙ ap (λ (k : Nums). soundBy (c .before .before .before .before .before .before .before .before .args .tested) (c .before .before .before .before .before .before .before .before .args .list .now) (stateOf k (c .before .before .before .before .before .before .before .before .args .held .now) (c .before .before .before .before .before .before .before .before .args .counts .now) (c .before .before .before .before .before .before .before .before .args .waiting .now))) (c .before .before .before .before .before .nums-of .ensures)) ∙ not-true _ (c .if1 .taken))), filled-no (c .before .before .before .before .before .before .before .before .args .tested) (c .before .before .before .before .before .before .before .before .args .list .now) (c .before .before .before .before .before .before .before .before .args .n) (stateOf (numsOf (c .before .before .before .before .before .before .before .before .args .nums .now)) (c .before .before .before .before .before .before .before .before .args .held .now) (c .before .before .before .before .before .before .before .before .args .counts .now) (c .before .before .before .before .before .before .before .before .args .waiting .now)) 34 (refusal-34 (c .before .before .before .before .before .before .before .before .args .tested) (c .before .before .before .before .before .before .before .before .args .list .now) (c .before .before .before .before .before .before .before .before .args .n) (stateOf (numsOf (c .before .before .before .before .before .before .before .before .args .nums .now)) (c .before .before .before .before .before .before .before .before .args .held .now) (c .before .before .before .before .before .before .before .before .args .counts .now) (c .before .before .before .before .before .before .before .before .args .waiting .now)) (sym (c .before .sound .ensures ∙ ap (λ (k : Nums). soundBy (c .before .before .before .before .before .before .before .before .args .tested) (c .before .before .before .before .before .before .before .before .args .list .now) (stateOf k (c .before .before .before .before .before .before .before .before .args .held .now) (c .before .before .before .before .before .before .before .before .args .counts .now) (c .before .before .before .before .before .before .before .before .args .waiting .now))) (c .before .before .before .before .before .nums-of .ensures)) ∙ not-true _ (c .if1 .taken))) (λ z. let w : _≡_ {A = ℕ} 34 0 = z in omega arith))
 
-add-lacks : tie.Need-add-lacks
-add-lacks c = omega (arith, (refusal-none (c .before .before .before .before .before .before .before .before .before .args .tested) (c .before .before .before .before .before .before .before .before .before .args .list .now) (c .before .before .before .before .before .before .before .before .before .args .n) (stateOf (c .before .before .before .before .before .before .before .before .before .args .nums) (c .before .before .before .before .before .before .before .before .before .args .held .now) (c .before .before .before .before .before .before .before .before .before .args .counts .now) (c .before .before .before .before .before .before .before .before .before .args .waiting .now)) (sym (c .before .before .before .before .fill-refusal .ensures) ∙ c .before .before .before .if1 .left)) .1)
-
-lacks-requires : tie.Need-lacks-requires
-lacks-requires c κs = search needs
-
-gathers-at-requires : tie.Need-gathers-at-requires
-gathers-at-requires c κs = ready-for (c .before .before .before .before .before .before .before .before .before .before .args .list .now) (c .before .before .before .before .before .before .before .before .before .before .args .nums) ((c .before .before .before .before .before .before .before .before .before .before .args .n) + 1) _ (sound-bounded (c .before .before .before .before .before .before .before .before .before .before .args .tested) (c .before .before .before .before .before .before .before .before .before .before .args .list .now) (stateOf (c .before .before .before .before .before .before .before .before .before .before .args .nums) (c .before .before .before .before .before .before .before .before .before .before .args .held .now) (c .before .before .before .before .before .before .before .before .before .before .args .counts .now) (c .before .before .before .before .before .before .before .before .before .before .args .waiting .now)) ((refusal-none (c .before .before .before .before .before .before .before .before .before .before .args .tested) (c .before .before .before .before .before .before .before .before .before .before .args .list .now) (c .before .before .before .before .before .before .before .before .before .before .args .n) (stateOf (c .before .before .before .before .before .before .before .before .before .before .args .nums) (c .before .before .before .before .before .before .before .before .before .before .args .held .now) (c .before .before .before .before .before .before .before .before .before .before .args .counts .now) (c .before .before .before .before .before .before .before .before .before .before .args .waiting .now)) (sym (c .before .before .before .before .before .fill-refusal .ensures) ∙ c .before .before .before .before .if1 .left)) .0)) (omega (arith, (refusal-none (c .before .before .before .before .before .before .before .before .before .before .args .tested) (c .before .before .before .before .before .before .before .before .before .before .args .list .now) (c .before .before .before .before .before .before .before .before .before .before .args .n) (stateOf (c .before .before .before .before .before .before .before .before .before .before .args .nums) (c .before .before .before .before .before .before .before .before .before .before .args .held .now) (c .before .before .before .before .before .before .before .before .before .before .args .counts .now) (c .before .before .before .before .before .before .before .before .before .before .args .waiting .now)) (sym (c .before .before .before .before .before .fill-refusal .ensures) ∙ c .before .before .before .before .if1 .left)) .1)) (c .lacks .ensures)
+fill-more-requires : tie.Need-fill-more-requires
+fill-more-requires c κs = sym (c .before .before .before .before .before .sound .ensures ∙ ap (λ (k : Nums). soundBy (c .before .before .before .before .before .before .before .before .before .before .before .before .args .tested) (c .before .before .before .before .before .before .before .before .before .before .before .before .args .list .now) (stateOf k (c .before .before .before .before .before .before .before .before .before .before .before .before .args .held .now) (c .before .before .before .before .before .before .before .before .before .before .before .before .args .counts .now) (c .before .before .before .before .before .before .before .before .before .before .before .before .args .waiting .now))) (c .before .before .before .before .before .before .before .before .before .nums-of .ensures)) ∙ not-false _ (c .before .before .before .before .if1 .left)
 
 returns-2 : tie.Need-returns-2
-returns-2 c = (c .before .before .before .before .before .before .fill-refusal .ensures, c .gathers-at .ensures ∙ ap (λ (k : ℕ). gathers (c .before .before .before .before .before .before .before .before .before .before .before .args .list .now) k (stateOf (c .before .before .before .before .before .before .before .before .before .before .before .args .nums) (c .before .before .before .before .before .before .before .before .before .before .before .args .held .now) (c .before .before .before .before .before .before .before .before .before .before .before .args .counts .now) (c .before .before .before .before .before .before .before .before .before .before .before .args .waiting .now))) (c .before .lacks .ensures) ∙ filled-yes (c .before .before .before .before .before .before .before .before .before .before .before .args .tested) (c .before .before .before .before .before .before .before .before .before .before .before .args .list .now) (c .before .before .before .before .before .before .before .before .before .before .before .args .n) (stateOf (c .before .before .before .before .before .before .before .before .before .before .before .args .nums) (c .before .before .before .before .before .before .before .before .before .before .before .args .held .now) (c .before .before .before .before .before .before .before .before .before .before .before .args .counts .now) (c .before .before .before .before .before .before .before .before .before .before .before .args .waiting .now)) _ (c .before .before .before .before .before .before .fill-refusal .ensures) (c .before .before .before .before .before .if1 .left))
+returns-2 c = c .fill-more .ensures
 
 pub filled-at-spec : {M : Type 1} → statement M
 filled-at-spec =
-    tie.close
-    (tie.spec fill-refusal-requires returns add-lacks lacks-requires gathers-at-requires returns-2)
+    tie.close (tie.spec nums-of-requires sound-requires returns fill-more-requires returns-2)

@@ -13,8 +13,8 @@ Inv-loop keep list script written₀ out₀ begun nums₀ held₀ counts₀ wait
 abbrev μ-loop : tie.MeasureT-loop
 μ-loop keep list script written₀ out₀ begun nums₀ held₀ counts₀ waiting₀ put₀ i₀ written out nums held counts waiting put i = length script - i
 
-fresh-requires : tie.Need-fresh-requires Inv-loop μ-loop
-fresh-requires c κs = search needs
+array-write-nums : tie.Need-array-write-nums Inv-loop μ-loop
+array-write-nums c = search needs
 
 loop-holds : tie.Need-loop-holds Inv-loop μ-loop
 loop-holds c = search needs
@@ -73,7 +73,7 @@ put-calls-spec =
     (tie.spec
     Inv-loop
     μ-loop
-    fresh-requires
+    array-write-nums
     loop-holds
     sub-loop
     shared-slice-read-code
