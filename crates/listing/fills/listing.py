@@ -1,23 +1,26 @@
 M = {'s': '(@Start .args .s .now)', 'o0': '(@Start .args .store .now)', 'o': '(@loop .store)', 'at': '(@loop .at)', 'n': '(@loop .n)', 'c': '(@loop .count)',
-     'h': '$s$ $o0$ $o$ $at$ $n$ $c$ (@loop .inv) (@next-token .result) (@next-token .ensures)',
-     'k': '(@token .given .0 .0) (@token .given .1)', 'e': '(@token .given .0 .0 .span .end)'}
+     't': '$s$ $o0$ $o$ $at$ $n$ $c$ (@loop .inv)', 'h': '$t$ (@next-token .result) (@next-token .ensures)',
+     'q': '$t$ (@quick-operator .result) (@quick-operator .ensures) (@if1 .taken)',
+     'k': '(@token .given .0 .0) (@token .given .1)'}
 far = 'omega (arith, @loop .inv, @Start .pre, @Start .good)'
 fill('next_token', {'returns': '@next .ensures', 'returns-2': '@later .ensures ∙ later-next $s$ $at$ (@if1 .left)'}, macros={'s': '(@Start .args .s .now)', 'at': '(@Start .args .at)'})
+fill('put', {'slice-write-store-2': 'simp length-set (omega arith)', 'slice-write-store-3': 'simp length-set (omega arith)'})
 fill('list_tokens', {
     'Inv-loop': 'Head s store₀ store at n count', 'μ-loop': 'length s - at',
     'loop-holds': 'head-first _ _',
-    'same-length': '@loop .inv .same', 'same-length-2': '@loop .inv .same', 'same-length-3': '@loop .inv .same',
-    'returns': 'list-halt $h$ (@refusal .given .0 .0) (@refusal .given .1)',
-    'returns-2': 'list-fin $h$ $k$ (@if1 .taken)',
-    'sub-if2': '@loop .inv .in-store',
-    'returns-3': 'let w = list-short $h$ $k$ (@if1 .left) (@if2 .taken) in (@no-room .ensures ∙ w .0, w .1)',
-    'mul-store': far, 'slice-write-store': 'omega arith',
-    'cast-store': far, 'add-store': far, 'mul-store-2': far, 'slice-write-store-2': 'simp length-set (omega arith)',
-    'cast-store-2': 'omega (arith, list-room $h$ $k$ (@if1 .left), @Start .pre)',
-    'add-store-2': far, 'mul-store-3': far, 'slice-write-store-3': 'simp length-set (omega arith)',
-    'add-n': far, 'add-count': far,
-    'loop-less': 'omega (arith, list-past $h$ $k$ (@if1 .left), list-room $h$ $k$ (@if1 .left))',
-    'loop-again': 'subst (λ (x : ℕ). Head $s$ $o0$ (set (set (set $o$ $n$ x) ($n$ + 1) $at$) ($n$ + 2) $e$) $e$ ($n$ + 3) ($c$ + 1)) (sym (@number-of .ensures)) (list-more $h$ $k$ (@if1 .left) (@if2 .left))'},
+    **{f'same-length{k}': '@loop .inv .same' for k in ['', '-2', '-3', '-4']},
+    **{f'sub-if{k}': '@loop .inv .in-store' for k in [2, 4]},
+    **{need: far for need in ['add-end', 'add-n', 'add-count', 'add-n-2', 'add-count-2']},
+    'returns': 'let w = quick-short $q$ (@if2 .taken) in (@no-room .ensures ∙ w .0, w .1)',
+    'put-requires': '(omega (arith, @loop .inv), omega (arith, @loop .inv, @Start .pre), omega (arith, quick-room $q$, @Start .pre))',
+    'loop-less': 'omega (arith, quick-past $q$, quick-room $q$)',
+    'loop-again': 'quick-more $q$ _ (@put .ensures) (@if2 .left)',
+    'returns-2': 'list-halt $h$ (@refusal .given .0 .0) (@refusal .given .1)',
+    'returns-3': 'list-fin $h$ $k$ (@if3 .taken)',
+    'returns-4': 'let w = list-short $h$ $k$ (@if3 .left) (@if4 .taken) in (@no-room2 .ensures ∙ w .0, w .1)',
+    'put-requires-2': '(omega (arith, @loop .inv), omega (arith, @loop .inv, @Start .pre), omega (arith, list-room $h$ $k$ (@if3 .left), @Start .pre))',
+    'loop-less-2': 'omega (arith, list-past $h$ $k$ (@if3 .left), list-room $h$ $k$ (@if3 .left))',
+    'loop-again-2': 'list-more $h$ $k$ (@if3 .left) (@number-of .result) (@number-of .ensures) _ (@put2 .ensures) (@if4 .left)'},
     macros=M, head='The invariant: what is left to list gives the answer, and written behind what is stored it gives the store. Assumes nothing.')
 W = {'s': '(@Start .args .s .now)', 'o': '(@Start .args .store .now)', 'r': '(length $o$)'}
 

@@ -1,6 +1,6 @@
 -- One turn of the listing: what is left to list gives the answer, and written behind what is stored it gives the store. Assumes nothing.
-use Prim.Native.Nat.{ℕ, suc, _+_, _-_, _≤_, _<_}
-use mathlib.Core.Path.{_≡_, refl, sym, ap, _∙_}
+use Prim.Native.Nat.{ℕ, suc, _+_, _-_, _/_, _%_, _≤_, _<_}
+use mathlib.Core.Path.{_≡_, refl, sym, ap, _∙_, subst}
 use mathlib.Core.List.{List, [], _∷_}
 use native.Mathlib.Omega.{arith}
 use lib.Seq.{sets}
@@ -12,11 +12,13 @@ use Rattle.listing.specs.Listing.{answerOf, listOf, noRoom, storedOf, wo
 use Rattle.listing.specs.declared.Listed.{Listed}
 use Rattle.listing.specs.declared.Listed.the-variants.{Stopped, Whole}
 use Rattle.numbers.specs.Kinds.{numberOf}
+use Rattle.quick_operators.proofs.Sure.{Quick, quick-next}
+use Rattle.quick_operators.specs.Quick.{quickAt}
 use Rattle.readers.specs.Rules.{base}
 use Rattle.sound.specs.Source.{sourceTest}
 use Rattle.sound.specs.declared.Tested.{Tested}
 use Rattle.sound.specs.declared.Tested.the-variants.{IllFormed, Misplaced, Sound, TooLong}
-use Rattle.token.specs.Reads.{pointRefusal}
+use Rattle.token.specs.Reads.{pointRefusal, spanOf}
 use Rattle.token.specs.declared.read.Read.{Read}
 use Rattle.token.specs.declared.read.Read.the-variants.{Got, Refused}
 use Rattle.token.specs.declared.read.Refusal.{Refusal}
@@ -81,9 +83,9 @@ module _ (s out₀ out : List ℕ) (at n count : ℕ) (h : Head s out₀ out at 
         list-short l =
             finish (more k (tokensAt base s (k .span .end))) (tokens-more s at r er k e z) (Stopped count (noRoom k)) (rw (lt-ltb (length out - n) 3 l, answerOf)) (rw (lt-ltb (length out - n) 3 l, wordsOf))
 
-        pub list-more : 3 ≤ length out - n → Head s out₀ (set (set (set out n (numberOf (k .kind))) (n + 1) at) (n + 2) (k .span .end)) (k .span .end) (n + 3) (count + 1)
+        turn : 3 ≤ length out - n → Head s out₀ (set (set (set out n (numberOf (k .kind))) (n + 1) at) (n + 2) (k .span .end)) (k .span .end) (n + 3) (count + 1)
         unfolding answerOf wordsOf
-        list-more l =
+        turn l =
             let end = k .span .end in
             let ts = tokensAt base s end in
             let next = set (set (set out n (numberOf (k .kind))) (n + 1) at) (n + 2) end in
@@ -107,11 +109,41 @@ module _ (s out₀ out : List ℕ) (at n count : ℕ) (h : Head s out₀ out at 
               few = omega arith;
             }
 
+        pub list-more : (x : ℕ) → x ≡ numberOf (k .kind) → (next : List ℕ) → next ≡ set (set (set out n x) (n + 1) at) (n + 2) (k .span .end) → 3 ≤ length out - n
+            → Head s out₀ next (k .span .end) (n + 3) (count + 1)
+        list-more x ex next en l =
+            subst (λ (o : List ℕ). Head s out₀ o (k .span .end) (n + 3) (count + 1))
+            (sym (en ∙ ap (λ (y : ℕ). set (set (set out n y) (n + 1) at) (n + 2) (k .span .end)) ex)) (turn l)
+
         pub list-past : at < k .span .end
         list-past = tokens-past s at r er k e z
 
         pub list-room : k .span .end ≤ length s
         list-room = tokens-room s at r er k e z
+
+  -- an operator told by its bytes is the token that is read
+  module _ (q : ℕ) (eq : q ≡ quickAt s at) (nz : q ≡ 0 → ⊥) where
+    told : Quick s at q
+    told = quick-next s at q eq nz
+
+    abbrev token : Token
+    token = record { kind = told .kind; span = spanOf at (at + q % 4) }
+
+    moves-on : at + q % 4 ≡ at → ⊥
+    moves-on e = omega (arith, told .some)
+
+    pub quick-short : length out - n < 3 → Done (Stopped count (record { number = 3; span = spanOf at (at + q % 4); reached = at + q % 4 }))
+    quick-short l = list-short (Got token) (told .reads) token refl moves-on l
+
+    pub quick-more : (next : List ℕ) → next ≡ set (set (set out n (q / 4)) (n + 1) at) (n + 2) (at + q % 4) → 3 ≤ length out - n
+        → Head s out₀ next (at + q % 4) (n + 3) (count + 1)
+    quick-more next en l = list-more (Got token) (told .reads) token refl moves-on (q / 4) (sym (told .number)) next en l
+
+    pub quick-past : at < at + q % 4
+    quick-past = omega (arith, told .some)
+
+    pub quick-room : at + q % 4 ≤ length s
+    quick-room = list-room (Got token) (told .reads) token refl moves-on
 
 -- the tests before, and the whole
 pub by-test : (s : List ℕ) (room : ℕ) (t : Tested) → t ≡ sourceTest s

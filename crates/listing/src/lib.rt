@@ -7,10 +7,10 @@ use token::refusal::ILL_FORMED;
 use token::refusal::NO_PLACE;
 use token::refusal::NO_ROOM;
 use token::refusal::TOO_LONG;
-ghost use Prim.Native.Nat.{_≤_};
+ghost use Prim.Native.Nat.{_+_, _≤_};
 ghost use mathlib.Core.Path.{_≡_};
 ghost use lib.Seq.{sets};
-ghost use lib.ListN.{length};
+ghost use lib.ListN.{length, set};
 ghost use Rattle.lexer.specs.Next.{nextAt};
 ghost use Rattle.listing.specs.Listing.{answerOf, listOf, storedOf, wordsOf};
 ghost use Rattle.listing.specs.declared.Listed.the-variants.{Stopped};
@@ -62,6 +62,16 @@ fn next_token(s: &[u8], at: usize) -> Read
     lexer::later(s, at)
 }
 
+// The three words of a token, at place n of the store.
+fn put(store: &mut [u32], n: usize, number: u32, at: usize, end: usize)
+    requires { ⌜ (n + 3 ≤ length (now store)) × (at ≤ 65536) × (end ≤ 65536) ⌝ }
+    ensures { λ r. ⌜ now (store .exit) ≡ set (set (set (now (store .entry)) n number) (n + 1) at) (n + 2) end ⌝ }
+{
+    store[n] = number;
+    store[n + 1] = at as u32;
+    store[n + 2] = end as u32;
+}
+
 fn list_tokens(s: &[u8], store: &mut [u32]) -> Listed
     requires { ⌜ length (now s) ≤ 65536 ⌝ }
     ensures { λ r. ⌜ (r ≡ answerOf (tokensAt base (now (s .entry)) 0) (length (now (store .entry))) 0)
@@ -71,26 +81,36 @@ fn list_tokens(s: &[u8], store: &mut [u32]) -> Listed
     let mut n: usize = 0;
     let mut count: usize = 0;
     loop {
-        match next_token(s, at) {
-            Read::Refused { refusal } => {
-                return Listed::Stopped { count, refusal };
+        let quick = quick_operators::quick_operator(s, at);
+        if quick != 0 {
+            let end = at + (quick % 4) as usize;
+            if store.len() - n < 3 {
+                return no_room(count, Span { start: at, end });
             }
-            Read::Got { token } => {
-                let kind = token.kind;
-                let span = token.span;
-                let end = span.end;
-                if end == at {
-                    return Listed::Whole { count };
+            put(store, n, quick / 4, at, end);
+            n = n + 3;
+            count = count + 1;
+            at = end;
+        } else {
+            match next_token(s, at) {
+                Read::Refused { refusal } => {
+                    return Listed::Stopped { count, refusal };
                 }
-                if store.len() - n < 3 {
-                    return no_room(count, span);
+                Read::Got { token } => {
+                    let kind = token.kind;
+                    let span = token.span;
+                    let end = span.end;
+                    if end == at {
+                        return Listed::Whole { count };
+                    }
+                    if store.len() - n < 3 {
+                        return no_room(count, span);
+                    }
+                    put(store, n, numbers::number_of(kind), at, end);
+                    n = n + 3;
+                    count = count + 1;
+                    at = end;
                 }
-                store[n] = numbers::number_of(kind);
-                store[n + 1] = at as u32;
-                store[n + 2] = end as u32;
-                n = n + 3;
-                count = count + 1;
-                at = end;
             }
         }
     }
