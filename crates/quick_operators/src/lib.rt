@@ -74,7 +74,6 @@ fn quick_of(s: &[u8], a: u8, i: usize, j: usize) -> u32
     }
 }
 
-// Where it is 0, no operator or a comment or shebang may stand there.
 pub fn quick_operator(s: &[u8], at: usize) -> u32
     ensures { λ r. ⌜ r ≡ quickAt (now (s .entry)) at ⌝ }
 {
