@@ -33,7 +33,24 @@ fn show(
     }
 }
 
-fn emit(
+fn emit_more(
+    nums: &mut [u32; 6],
+    held: &mut [u32; 8],
+    counts: &mut [u32; 8],
+    waiting: &mut [u32; 256],
+    code: u8,
+    n: u8,
+    list: &[u32],
+    written: &mut [u32],
+) -> Looked {
+    match code {
+        7 => bump_while_at(nums, held, counts, waiting, 0, n as u32, list, written),
+        9 => array_at(nums, held, counts, waiting, 0, n as usize, list, written),
+        _ => advance_at(nums, held, counts, waiting, 0, n as usize, list, written),
+    }
+}
+
+fn emit_one(
     nums: &mut [u32; 6],
     held: &mut [u32; 8],
     counts: &mut [u32; 8],
@@ -46,10 +63,7 @@ fn emit(
     match code {
         5 => flush_at(nums, held, counts, waiting, 0, list, written),
         6 => bump_at(nums, held, counts, waiting, 0, list, written),
-        7 => bump_while_at(nums, held, counts, waiting, 0, n as u32, list, written),
-        8 => bump_if_at(nums, held, counts, waiting, 0, n as u32, list, written),
-        9 => array_at(nums, held, counts, waiting, 0, n as usize, list, written),
-        _ => advance_at(nums, held, counts, waiting, 0, n as usize, list, written),
+        _ => bump_if_at(nums, held, counts, waiting, 0, n as u32, list, written),
     }
 }
 
@@ -78,7 +92,8 @@ fn call(
         return Looked::Refused { number: 33 };
     }
     match code {
-        5..=10 => emit(nums, held, counts, waiting, code, n, list, written),
+        5 | 6 | 8 => emit_one(nums, held, counts, waiting, code, n, list, written),
+        7 | 9 | 10 => emit_more(nums, held, counts, waiting, code, n, list, written),
         _ => show(nums, held, counts, waiting, code, n as usize, list),
     }
 }

@@ -30,6 +30,17 @@ fn put_outside(out: &mut [u8], waiting: usize, number: u32) -> usize {
     put_bytes(out, waiting, b"unsound\n")
 }
 
+fn put_emitter(out: &mut [u8], waiting: usize, code: u8) -> usize {
+    match code {
+        5 => put_bytes(out, waiting, b"flush_ws"),
+        6 => put_bytes(out, waiting, b"bump"),
+        7 => put_bytes(out, waiting, b"bump_while"),
+        8 => put_bytes(out, waiting, b"bump_if"),
+        9 => put_bytes(out, waiting, b"array"),
+        _ => put_bytes(out, waiting, b"advance"),
+    }
+}
+
 fn put_name(out: &mut [u8], waiting: usize, code: u8) -> usize {
     match code {
         0 => put_bytes(out, waiting, b"fill"),
@@ -37,12 +48,7 @@ fn put_name(out: &mut [u8], waiting: usize, code: u8) -> usize {
         2 => put_bytes(out, waiting, b"nth"),
         3 => put_bytes(out, waiting, b"nth_token"),
         4 => put_bytes(out, waiting, b"glued"),
-        5 => put_bytes(out, waiting, b"flush_ws"),
-        6 => put_bytes(out, waiting, b"bump"),
-        7 => put_bytes(out, waiting, b"bump_while"),
-        8 => put_bytes(out, waiting, b"bump_if"),
-        9 => put_bytes(out, waiting, b"array"),
-        10 => put_bytes(out, waiting, b"advance"),
+        5..=10 => put_emitter(out, waiting, code),
         _ => put_bytes(out, waiting, b"is_eof"),
     }
 }
