@@ -9,3 +9,4 @@ pub mod Whole
 pub mod Parts
 pub mod Fronts
 pub mod Calls
+pub mod Shown
