@@ -1,6 +1,6 @@
 M = {'s': '(@Start .args .s .now)', 'o0': '(@Start .args .store .now)', 'o': '(@loop .store)', 'at': '(@loop .at)', 'n': '(@loop .n)', 'c': '(@loop .count)',
      't': '$s$ $o0$ $o$ $at$ $n$ $c$ (@loop .inv)', 'h': '$t$ (@next-token .result) (@next-token .ensures)',
-     'q': '$t$ (@quick-operator .result) (@quick-operator .ensures) (@if1 .taken)',
+     'q': '$t$ (@quick-token .result) (@quick-token .ensures) (@if1 .taken)',
      'k': '(@token .given .0 .0) (@token .given .1)'}
 far = 'omega (arith, @loop .inv, @Start .pre, @Start .good)'
 fill('next_token', {'returns': '@next .ensures', 'returns-2': '@later .ensures ∙ later-next $s$ $at$ (@if1 .left)'}, macros={'s': '(@Start .args .s .now)', 'at': '(@Start .args .at)'})
@@ -10,7 +10,7 @@ fill('list_tokens', {
     'loop-holds': 'head-first _ _',
     **{f'same-length{k}': '@loop .inv .same' for k in ['', '-2', '-3', '-4']},
     **{f'sub-if{k}': '@loop .inv .in-store' for k in [2, 4]},
-    **{need: far for need in ['add-end', 'add-n', 'add-count', 'add-n-2', 'add-count-2']},
+    **{need: far for need in ['add-n', 'add-count', 'add-n-2', 'add-count-2']},
     'returns': 'let w = quick-short $q$ (@if2 .taken) in (@no-room .ensures ∙ w .0, w .1)',
     'put-requires': '(omega (arith, @loop .inv), omega (arith, @loop .inv, @Start .pre), omega (arith, quick-room $q$, @Start .pre))',
     'loop-less': 'omega (arith, quick-past $q$, quick-room $q$)',

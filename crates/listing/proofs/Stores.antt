@@ -1,5 +1,5 @@
 -- One turn of the listing: what is left to list gives the answer, and written behind what is stored it gives the store. Assumes nothing.
-use Prim.Native.Nat.{ℕ, suc, _+_, _-_, _/_, _%_, _≤_, _<_}
+use Prim.Native.Nat.{ℕ, suc, _+_, _-_, _≤_, _<_}
 use mathlib.Core.Path.{_≡_, refl, sym, ap, _∙_, subst}
 use mathlib.Core.List.{List, [], _∷_}
 use native.Mathlib.Omega.{arith}
@@ -12,8 +12,9 @@ use Rattle.listing.specs.Listing.{answerOf, listOf, noRoom, storedOf, wo
 use Rattle.listing.specs.declared.Listed.{Listed}
 use Rattle.listing.specs.declared.Listed.the-variants.{Stopped, Whole}
 use Rattle.numbers.specs.Kinds.{numberOf}
-use Rattle.quick_operators.proofs.Sure.{Quick, quick-next}
-use Rattle.quick_operators.specs.Quick.{quickAt}
+use Rattle.quick_tokens.proofs.Sure.{Told, quick-told}
+use Rattle.quick_tokens.specs.Tokens.{quickTokenAt}
+use Rattle.quick_tokens.specs.declared.Quick.{Quick}
 use Rattle.readers.specs.Rules.{base}
 use Rattle.sound.specs.Source.{sourceTest}
 use Rattle.sound.specs.declared.Tested.{Tested}
@@ -121,28 +122,28 @@ module _ (s out₀ out : List ℕ) (at n count : ℕ) (h : Head s out₀ out at 
         pub list-room : k .span .end ≤ length s
         list-room = tokens-room s at r er k e z
 
-  -- an operator told by its bytes is the token that is read
-  module _ (q : ℕ) (eq : q ≡ quickAt s at) (nz : q ≡ 0 → ⊥) where
-    told : Quick s at q
-    told = quick-next s at q eq nz
+  -- a token told by its bytes is the token that is read
+  module _ (q : Quick) (eq : q ≡ quickTokenAt s at) (nz : q .number ≡ 0 → ⊥) where
+    told : Told s at q
+    told = quick-told s at q eq nz
 
     abbrev token : Token
-    token = record { kind = told .kind; span = spanOf at (at + q % 4) }
+    token = record { kind = told .kind; span = spanOf at (q .end) }
 
-    moves-on : at + q % 4 ≡ at → ⊥
-    moves-on e = omega (arith, told .some)
+    pub quick-past : at < q .end
+    quick-past = told .past
 
-    pub quick-short : length out - n < 3 → Done (Stopped count (record { number = 3; span = spanOf at (at + q % 4); reached = at + q % 4 }))
+    moves-on : q .end ≡ at → ⊥
+    moves-on e = omega (arith, quick-past)
+
+    pub quick-short : length out - n < 3 → Done (Stopped count (record { number = 3; span = spanOf at (q .end); reached = q .end }))
     quick-short l = list-short (Got token) (told .reads) token refl moves-on l
 
-    pub quick-more : (next : List ℕ) → next ≡ set (set (set out n (q / 4)) (n + 1) at) (n + 2) (at + q % 4) → 3 ≤ length out - n
-        → Head s out₀ next (at + q % 4) (n + 3) (count + 1)
-    quick-more next en l = list-more (Got token) (told .reads) token refl moves-on (q / 4) (sym (told .number)) next en l
+    pub quick-more : (next : List ℕ) → next ≡ set (set (set out n (q .number)) (n + 1) at) (n + 2) (q .end) → 3 ≤ length out - n
+        → Head s out₀ next (q .end) (n + 3) (count + 1)
+    quick-more next en l = list-more (Got token) (told .reads) token refl moves-on (q .number) (sym (told .number)) next en l
 
-    pub quick-past : at < at + q % 4
-    quick-past = omega (arith, told .some)
-
-    pub quick-room : at + q % 4 ≤ length s
+    pub quick-room : q .end ≤ length s
     quick-room = list-room (Got token) (told .reads) token refl moves-on
 
 -- the tests before, and the whole

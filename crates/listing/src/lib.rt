@@ -81,13 +81,13 @@ fn list_tokens(s: &[u8], store: &mut [u32]) -> Listed
     let mut n: usize = 0;
     let mut count: usize = 0;
     loop {
-        let quick = quick_operators::quick_operator(s, at);
-        if quick != 0 {
-            let end = at + (quick % 4) as usize;
+        let quick = quick_tokens::quick_token(s, at);
+        if quick.number != 0 {
+            let end = quick.end;
             if store.len() - n < 3 {
                 return no_room(count, Span { start: at, end });
             }
-            put(store, n, quick / 4, at, end);
+            put(store, n, quick.number, at, end);
             n = n + 3;
             count = count + 1;
             at = end;

@@ -8,7 +8,7 @@ use lib.Dec.{eqb}
 use lib.ListN.{List·getD-eq-default, getD, length}
 use borrow.Author.Tests.{eq-eqb, eqb-false, eqb-true, ne-eqb, not-true}
 use Rattle.choice.proofs.Choice.{first-other, other-found}
-use Rattle.choice.specs.Rule.{noTemplate}
+use Rattle.choice.specs.Rule.{firstOf, noTemplate}
 use Rattle.classes.specs.Classes.{isWhiteSpace, whiteSpace}
 use Rattle.laws.proofs.Cases.{both-false, both-inv, either-true, never, split, split-eq, split-le, within-inv}
 use Rattle.laws.specs.Bools.{both, within}
@@ -32,7 +32,7 @@ use Rattle.token.specs.declared.kind.Known.{Known}
 use Rattle.token.specs.declared.kind.Known.the-variants.{Is, Unknown}
 
 -- a byte of a row: ASCII, and not the 0 that stands behind the end
-abbrev inRow : ℕ → Bool
+abbrev pub inRow : ℕ → Bool
 inRow b = within 1 127 b
 
 -- the first of a row: no rule before the operators' reads it, `#` and `/` apart
@@ -40,26 +40,26 @@ abbrev opens : ℕ → Bool
 opens a = both (inRow a) (both (not (isWhiteSpace a)) (both (not (eqb a 34)) (both (not (eqb a 96)) (not (eqb a 98)))))
 
 -- a test that every row passes, and so whatever is found
-unfoldable everyOne : (ℕ → Bool) → List (ℕ × Kind) → Bool
+unfoldable pub everyOne : (ℕ → Bool) → List (ℕ × Kind) → Bool
 everyOne f [] = true
 everyOne f (r ∷ t) = both (f (r .0)) (everyOne f t)
 
-unfoldable everyTwo : (ℕ → ℕ → Bool) → List (ℕ × ℕ × Kind) → Bool
+unfoldable pub everyTwo : (ℕ → ℕ → Bool) → List (ℕ × ℕ × Kind) → Bool
 everyTwo f [] = true
 everyTwo f (r ∷ t) = both (f (r .0) (r .1)) (everyTwo f t)
 
-unfoldable everyThree : (ℕ → ℕ → ℕ → Bool) → List (ℕ × ℕ × ℕ × Kind) → Bool
+unfoldable pub everyThree : (ℕ → ℕ → ℕ → Bool) → List (ℕ × ℕ × ℕ × Kind) → Bool
 everyThree f [] = true
 everyThree f (r ∷ t) = both (f (r .0) (r .1) (r .2)) (everyThree f t)
 
-found-one : (f : ℕ → Bool) (t : List (ℕ × Kind)) (a : ℕ) (k : Kind) → everyOne f t ≡ true → lookOne t a ≡ Is k → f a ≡ true
+pub found-one : (f : ℕ → Bool) (t : List (ℕ × Kind)) (a : ℕ) (k : Kind) → everyOne f t ≡ true → lookOne t a ≡ Is k → f a ≡ true
 unfolding lookOne everyOne
 found-one f [] a k h e = never (cc)
 found-one f (r ∷ t) a k h e =
     let i = both-inv (f (r .0)) (everyOne f t) h in
     split (eqb a (r .0)) (λ q. ap f (eqb-true a (r .0) q) ∙ i .0) (λ q. found-one f t a k (i .1) (rw q at e))
 
-found-two : (f : ℕ → ℕ → Bool) (t : List (ℕ × ℕ × Kind)) (a b : ℕ) (k : Kind) → everyTwo f t ≡ true → lookTwo t a b ≡ Is k → f a b ≡ true
+pub found-two : (f : ℕ → ℕ → Bool) (t : List (ℕ × ℕ × Kind)) (a b : ℕ) (k : Kind) → everyTwo f t ≡ true → lookTwo t a b ≡ Is k → f a b ≡ true
 unfolding lookTwo everyTwo
 found-two f [] a b k h e = never (cc)
 found-two f (r ∷ t) a b k h e =
@@ -68,7 +68,7 @@ found-two f (r ∷ t) a b k h e =
     (λ q. let j = both-inv (eqb a (r .0)) (eqb b (r .1)) q in (λ x. f (eqb-true a (r .0) (j .0) x) (eqb-true b (r .1) (j .1) x)) ∙ i .0)
     (λ q. found-two f t a b k (i .1) (rw q at e))
 
-found-three : (f : ℕ → ℕ → ℕ → Bool) (t : List (ℕ × ℕ × ℕ × Kind)) (a b c : ℕ) (k : Kind) → everyThree f t ≡ true → lookThree t a b c ≡ Is k → f a b c ≡ true
+pub found-three : (f : ℕ → ℕ → ℕ → Bool) (t : List (ℕ × ℕ × ℕ × Kind)) (a b c : ℕ) (k : Kind) → everyThree f t ≡ true → lookThree t a b c ≡ Is k → f a b c ≡ true
 unfolding lookThree everyThree
 found-three f [] a b c k h e = never (cc)
 found-three f (r ∷ t) a b c k h e =
@@ -95,13 +95,13 @@ three-row a b c k e =
     let j = both-inv (inRow b) (inRow c) (i .1) in
     (i .0, j .0, j .1)
 
-by-known : {X : Type 0} (m : Known) → (m ≡ Unknown → X) → ((k : Kind) → m ≡ Is k → X) → X
+pub by-known : {X : Type 0} (m : Known) → (m ≡ Unknown → X) → ((k : Kind) → m ≡ Is k → X) → X
 by-known Unknown f g = f refl
 by-known (Is k) f g = g k refl
 
 module _ (s : List ℕ) where
   -- a byte of a row is the scalar there, and a scalar of a row is the byte there
-  byte-step : (i : ℕ) → inRow (getD s i 0) ≡ true → Step s i (getD s i 0) (i + 1)
+  pub byte-step : (i : ℕ) → inRow (getD s i 0) ≡ true → Step s i (getD s i 0) (i + 1)
   byte-step i h =
       let w = within-inv 1 127 (getD s i 0) h in
       step-ascii s i (split-le (length s) i (λ l. absurd (omega (arith, List·getD-eq-default s 0 l))) (λ l. l)) (w .1)
@@ -189,9 +189,18 @@ pub record Quick (s : List ℕ) (at q : ℕ) : Type 0 where
   pub reads : gotOf kind at (at + q % 4) ≡ nextAt s at
 
 module _ (s : List ℕ) (at : ℕ) where
+  -- what the rules read from an ASCII byte on, which is not `#` or a backtick, is what the reader reads
+  pub first-next : (k : Kind) (e : ℕ) → inRow (getD s at 0) ≡ true → (getD s at 0 ≡ 35 → ⊥) → (getD s at 0 ≡ 96 → ⊥) → gotOf k at e ≡ firstOf base noTemplate (getD s at 0) at (rest s (at + 1)) (at + 1)
+      → gotOf k at e ≡ nextAt s at
+  unfolding laterAt
+  first-next k e i u v h =
+      let here = byte-step s at i in
+      let whole : gotOf k at e ≡ tokenOf base 64 (rest s at) at = h ∙ token-plain 64 s at (getD s at 0) (at + 1) here v in
+      ap (closeSpan (length s)) whole ∙ later-token s at (rw (here .here, ne-eqb (getD s at 0) 35 u, both-false))
+
   -- an operator behind a first byte that is not `#` or `/` is what the reader reads
   token-next : (k : Kind) (n : ℕ) → Told (getD s at 0) (getD s (at + 1) 0) (getD s (at + 2) 0) k n → (getD s at 0 ≡ 35 → ⊥) → (getD s at 0 ≡ 47 → ⊥) → gotOf k at (at + n) ≡ nextAt s at
-  unfolding operatorOf findOne laterAt
+  unfolding operatorOf findOne
   token-next k n t u v =
       let a = getD s at 0 in
       let cs = rest s (at + 1) in
@@ -200,13 +209,10 @@ module _ (s : List ℕ) (at : ℕ) where
       let l = both-inv (not (eqb a 34)) (both (not (eqb a 96)) (not (eqb a 98))) (j .1) in
       let m = both-inv (not (eqb a 96)) (not (eqb a 98)) (l .1) in
       let no : (x : ℕ) → not (eqb a x) ≡ true → a ≡ x → ⊥ = λ x h. eqb-false a x (not-true (eqb a x) h) in
-      let here = byte-step s at (i .0) in
       let two : at + 1 + 1 ≡ at + 2 = omega arith in
       let op : operatorOf base a cs (at + 1) ≡ Found k (at + n) = rw (three-bytes s a (at + 1), two-bytes s a (at + 1), two) (rw two at (t .moved at)) in
-      let whole : gotOf k at (at + n) ≡ tokenOf base 64 (rest s at) at =
-      other-found noTemplate at cs (at + 1) a k (at + n) op ∙ first-other noTemplate at cs (at + 1) a (not-true (isWhiteSpace a) (j .0)) (no 34 (l .0)) v (no 98 (m .1))
-      ∙ token-plain 64 s at a (at + 1) here (no 96 (m .0)) in
-      ap (closeSpan (length s)) whole ∙ later-token s at (rw (here .here, ne-eqb a 35 u, both-false))
+      first-next k (at + n) (i .0) u (no 96 (m .0))
+      (other-found noTemplate at cs (at + 1) a k (at + n) op ∙ first-other noTemplate at cs (at + 1) a (not-true (isWhiteSpace a) (j .0)) (no 34 (l .0)) v (no 98 (m .1)))
 
   pub quick-next : (q : ℕ) → q ≡ quickAt s at → (q ≡ 0 → ⊥) → Quick s at q
   unfolding quickAt
