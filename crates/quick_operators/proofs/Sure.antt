@@ -101,7 +101,7 @@ by-known (Is k) f g = g k refl
 
 module _ (s : List ℕ) where
   -- a byte of a row is the scalar there, and a scalar of a row is the byte there
-  pub byte-step : (i : ℕ) → inRow (getD s i 0) ≡ true → Step s i (getD s i 0) (i + 1)
+  byte-step : (i : ℕ) → inRow (getD s i 0) ≡ true → Step s i (getD s i 0) (i + 1)
   byte-step i h =
       let w = within-inv 1 127 (getD s i 0) h in
       step-ascii s i (split-le (length s) i (λ l. absurd (omega (arith, List·getD-eq-default s 0 l))) (λ l. l)) (w .1)

@@ -1,5 +1,4 @@
 -- Where a token is told, the reader reads that token. Assumes nothing.
--- the classes below 0x80
 use Prim.Native.Nat.{ℕ, _+_, _/_, _%_, _≤_, _<_}
 use mathlib.Core.Path.{_≡_, refl, sym, ap, _∙_, subst}
 use mathlib.Core.List.{List, [], _∷_}
@@ -28,12 +27,13 @@ use Rattle.quick_tokens.specs.declared.Quick.{Quick}
 use Rattle.readers.specs.Readers.{inNumber, whiteOf, wordOf}
 use Rattle.readers.specs.Rules.{base}
 use Rattle.text.proofs.Decode.{rest-end, step-ascii}
-use Rattle.text.specs.Utf8.{first, rest}
+use Rattle.text.specs.Utf8.{rest}
 use Rattle.token.specs.Reads.{gotOf}
 use Rattle.token.specs.declared.kind.Kind.{Kind}
 use Rattle.token.specs.declared.kind.Kind.the-variants.{Ident, Underscore, Whitespace}
 use Rattle.token.specs.declared.kind.Known.the-variants.{Unknown}
 
+-- the classes below 0x80
 white-blank : (v : ℕ) → v < 0x80 → isWhiteSpace v ≡ either (isBlank v) (either (eqb v 11) (eqb v 12))
 unfolding inRanges whiteSpace everyBelow
 white-blank = below-same isWhiteSpace (λ v. either (isBlank v) (either (eqb v 11) (eqb v 12))) 0x80 refl
@@ -120,8 +120,8 @@ module _ (s : List ℕ) (at : ℕ) where
       let c-low : c ≤ 127 = ltb-false 127 c (n .0) in
       let run-is = run-bytes isWhiteSpace isBlank (λ v y. omega (arith, blank-low v y .1)) (λ v y. white-blank v (omega (arith, blank-low v y .1)) ∙ rw y) s (at + 1) c-low
       (λ y. white-blank c (omega (arith, c-low)) ∙ rw (y, n .1)) in
-      let first : gotOf Whitespace at end ≡ firstOf base noTemplate a at cs (at + 1) = ap (gotOf Whitespace at) run-is ∙ first-white noTemplate at cs (at + 1) a is in
-      let reads = first-next s at Whitespace end (within-yes 1 127 a (lo .0) (omega (arith, lo .1))) (λ z. omega (arith, lo .1)) (λ z. omega (arith, lo .1)) first in
+      let white : gotOf Whitespace at end ≡ firstOf base noTemplate a at cs (at + 1) = ap (gotOf Whitespace at) run-is ∙ first-white noTemplate at cs (at + 1) a is in
+      let reads = first-next s at Whitespace end (within-yes 1 127 a (lo .0) (omega (arith, lo .1))) (λ z. omega (arith, lo .1)) (λ z. omega (arith, lo .1)) white in
       subst (Told s at) (sym (t .1)) (record { kind = Whitespace; number = refl; past = omega arith; reads = reads })
 
   -- behind `b` stands no quote
