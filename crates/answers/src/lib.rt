@@ -1,5 +1,6 @@
 // What a call answers, in numbers, for callers in other languages: each equals its definition in specs/.
 mod form;
+mod reading;
 
 ghost use mathlib.Core.Path.{_≡_};
 ghost use Rattle.answers.specs.Told.{ofListed, ofOutlined, ofRead, ofRefusal, ofStored, ofTested, ofUnescaped, toldAs};
@@ -7,6 +8,7 @@ pub use form::Named;
 pub use form::form_of;
 use listing::Listed;
 use outline::Outlined;
+pub use reading::reading_of;
 use sound::Tested;
 use storage::Stored;
 use token::Read;

@@ -18,12 +18,12 @@ M = {'s': '(@Start .args .s .now)', 'at': '(@Start .args .at)', 'a': '(@Start .a
      'step': '(step-one $s$ $p$ $v$ $n$ (sym (@scalar-at .ensures) ∙ @value .given .1))',
      'two': '(step-one $s$ $n$ (@after .given .0 .0) (@after .given .0 .1 .0) (sym (@scalar-at2 .ensures) ∙ @after .given .1))',
      'read': '(λ (o : Stop Chars). charAnswer $a$ (o .state) (o .last) (o .place))',
-     'whole': '(scan charStep base (letters true false) $at$ (rest $s$ $at$) $at$)',
+     'whole': '(scan charStep width (letters true false) $at$ (rest $s$ $at$) $at$)',
      'go': 'charStep $st$ $s$ $p$ $whole$ $g$', 'is': '$l$ $m$ $v$ $cs$',
      'other': '(sym (@in-label .ensures) ∙ @if3 .left)', 'calm': '(sym (@is-control .ensures) ∙ @if4 .left)',
      'slash': '(char-slash $is$ (@if1 .left) (@if2 .taken))'}
 fill('next_char_or_label', {
-    'Inv-loop': 'Goes charStep (letters label some) s p (scan charStep base (letters true false) at (rest s at) at)', 'μ-loop': 'length s - p',
+    'Inv-loop': 'Goes charStep (letters label some) s p (scan charStep width (letters true false) at (rest s at) at)', 'μ-loop': 'length s - p',
     'loop-holds': '($at$, refl)',
     'returns': ('charOf', '@char-or-label .ensures ∙ answer-last $a$ $l$ $m$ $p$ ($g$ .0) $p$ ∙ ap $read$ (goes-end $go$ (step-none $s$ $p$ (sym (@scalar-at .ensures) ∙ @enum-told .given .1)))'),
     'returns-2': ('charOf', '@char-or-label2 .ensures ∙ answer-shut $a$ $m$ $n$ $p$ $n$ ∙ ap $read$ (goes-behind $go$ $v$ $n$ $step$ (shut $m$) (char-close $is$ (@if1 .taken)))'),

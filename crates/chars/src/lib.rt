@@ -8,8 +8,7 @@ use token::refusal::EXPECTED_ESCAPE;
 use token::refusal::UNTERMINATED_CHAR_LIT;
 ghost use mathlib.Core.Path.{_≡_};
 ghost use Rattle.readers.specs.Readers.{charAnswer, charOf, inLabel, letters};
-ghost use Rattle.readers.specs.Rules.{base};
-ghost use Rattle.text.specs.Utf8.{rest};
+ghost use Rattle.text.specs.Utf8.{rest, width};
 
 fn in_label(v: u32) -> bool
     ensures { λ r. ⌜ r ≡ inLabel v ⌝ }
@@ -37,7 +36,7 @@ fn char_or_label(label: bool, some: bool, start: usize, end: usize) -> Read
 }
 
 pub fn next_char_or_label(s: &[u8], start: usize, at: usize) -> Read
-    ensures { λ r. ⌜ r ≡ charOf base start (rest (now (s .entry)) at) at ⌝ }
+    ensures { λ r. ⌜ r ≡ charOf width start (rest (now (s .entry)) at) at ⌝ }
 {
     let mut p = at;
     let mut label = true;

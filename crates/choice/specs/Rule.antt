@@ -35,25 +35,25 @@ Deep = ℕ → List ℕ → ℕ → Read
 -- the scalar v stands at a; behind it stand the scalars cs, from p on. Words, numbers, char or label, template, and 18 where no rule fits
 unfoldable pub leftOf : Rules → Deep → ℕ → ℕ → List ℕ → ℕ → Read
 leftOf R t v a cs p =
-    pick (startsWord R v) (wordOf R v a cs p)
-    (pick (isDigit v) (numberLitOf R a cs p)
-    (pick (eqb v 39) (charOf R a cs p)
+    pick (startsWord R v) (wordOf (R .wide) (R .continue) v a cs p)
+    (pick (isDigit v) (numberLitOf (R .wide) a cs p)
+    (pick (eqb v 39) (charOf (R .wide) a cs p)
     (pick (eqb v 96) (t a cs p)
     (refusedOf 18 a p p))))
 
 -- operators come before these
 unfoldable pub otherOf : Rules → Deep → ℕ → ℕ → List ℕ → ℕ → Read
-otherOf R t v a cs p = foundOr (operatorOf R v cs p) a (leftOf R t v a cs p)
+otherOf R t v a cs p = foundOr (operatorOf (R .wide) v cs p) a (leftOf R t v a cs p)
 
 -- white space, `//`, `/*`, `b'`, `b"`, `"`, and then the others
 unfoldable pub firstOf : Rules → Deep → ℕ → ℕ → List ℕ → ℕ → Read
 firstOf R t v a cs p =
-    pick (isWhiteSpace v) (whiteOf R a cs p)
-    (pick (both (eqb v 47) (nextIs 47 cs)) (behindOne R (lineOf R Comment a) cs p)
-    (pick (both (eqb v 47) (nextIs 42 cs)) (behindOne R (commentOf R a) cs p)
-    (pick (both (eqb v 98) (nextIs 39 cs)) (behindOne R (byteOf R a) cs p)
-    (pick (both (eqb v 98) (nextIs 34 cs)) (behindOne R (strOf R true a) cs p)
-    (pick (eqb v 34) (strOf R false a cs p)
+    pick (isWhiteSpace v) (whiteOf (R .wide) a cs p)
+    (pick (both (eqb v 47) (nextIs 47 cs)) (behindOne R (lineOf (R .wide) Comment a) cs p)
+    (pick (both (eqb v 47) (nextIs 42 cs)) (behindOne R (commentOf (R .wide) (R .skip) a) cs p)
+    (pick (both (eqb v 98) (nextIs 39 cs)) (behindOne R (byteOf (R .wide) a) cs p)
+    (pick (both (eqb v 98) (nextIs 34 cs)) (behindOne R (strOf (R .wide) true a) cs p)
+    (pick (eqb v 34) (strOf (R .wide) false a cs p)
     (otherOf R t v a cs p))))))
 
 -- where no template is read, a backtick fits no rule

@@ -1,17 +1,18 @@
 // Every rule but the template's. The scalar read first stands at `start` and ends at `at`.
 use operators::Operator;
+use readers::Reading;
 use text::Scalar;
 use token::Kind;
 use token::Read;
 use token::refusal::UNEXPECTED_CHAR;
 ghost use mathlib.Core.Path.{_≡_};
 ghost use Rattle.choice.specs.Rule.{firstOf, leftOf, noTemplate, otherOf};
-ghost use Rattle.readers.specs.Rules.{base};
+ghost use Rattle.readers.specs.Rules.{rulesOf, rune};
 ghost use Rattle.text.specs.Utf8.{rest};
 
-// Words, numbers, char or label; 18 where no rule fits.
+// Words, numbers, char or label, in every reading; 18 where no rule fits.
 fn read_left(s: &[u8], value: u32, start: usize, at: usize) -> Read
-    ensures { λ r. ⌜ r ≡ leftOf base noTemplate value start (rest (now (s .entry)) at) at ⌝ }
+    ensures { λ r. ⌜ r ≡ leftOf (rulesOf rune) noTemplate value start (rest (now (s .entry)) at) at ⌝ }
 {
     if value == 95 {
         return words::next_ident(s, value, start, at);
@@ -29,7 +30,7 @@ fn read_left(s: &[u8], value: u32, start: usize, at: usize) -> Read
 }
 
 fn read_other(s: &[u8], value: u32, start: usize, at: usize) -> Read
-    ensures { λ r. ⌜ r ≡ otherOf base noTemplate value start (rest (now (s .entry)) at) at ⌝ }
+    ensures { λ r. ⌜ r ≡ otherOf (rulesOf rune) noTemplate value start (rest (now (s .entry)) at) at ⌝ }
 {
     let Operator::Found { kind, end } = operators::next_operator(s, value, at) else {
         return read_left(s, value, start, at);
@@ -38,8 +39,8 @@ fn read_other(s: &[u8], value: u32, start: usize, at: usize) -> Read
 }
 
 // `read_other` has one call, at the end: so the compiler inlines it, and the answer for an operator or a word is not copied once more.
-pub fn read_first(s: &[u8], value: u32, start: usize, at: usize) -> Read
-    ensures { λ r. ⌜ r ≡ firstOf base noTemplate value start (rest (now (s .entry)) at) at ⌝ }
+pub fn read_first(s: &[u8], reading: Reading, value: u32, start: usize, at: usize) -> Read
+    ensures { λ r. ⌜ r ≡ firstOf (rulesOf reading) noTemplate value start (rest (now (s .entry)) at) at ⌝ }
 {
     if classes::is_whitespace(value) {
         return token::got(Kind::Whitespace, start, readers::consume_whitespace(s, at));
@@ -57,7 +58,8 @@ pub fn read_first(s: &[u8], value: u32, start: usize, at: usize) -> Read
                     return token::got(Kind::Comment, start, readers::consume_line(s, next));
                 }
                 if second == 42 {
-                    return readers::next_multiline_comment(s, start, next);
+                    let comments = reading.comments;
+                    return readers::next_multiline_comment(s, comments, start, next);
                 }
             }
             Scalar::None => {}

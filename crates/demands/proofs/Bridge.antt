@@ -7,13 +7,12 @@ use native.Mathlib.Omega.{arith}
 use lib.Dec.{leb}
 use lib.ListN.{drop, getD, length}
 use Rattle.demands.specs.Scalars.{Even, flat}
-use Rattle.families.proofs.Ends.{after-le, base-after}
+use Rattle.families.proofs.Ends.{after-le, bytes-after}
 use Rattle.families.specs.Places.{placeAfter}
 use Rattle.families.specs.Shape.{xs}
 use Rattle.laws.proofs.Cases.{never, split}
 use Rattle.outline.proofs.Shading.{paint-length}
 use Rattle.outline.specs.Outline.{paint}
-use Rattle.readers.specs.Rules.{base}
 use Rattle.sound.specs.Source.{soundTo}
 use Rattle.text.proofs.Decode.{by-first, end-first, first-at, first-whole, rest-end, rest-tail, step-ascii, step-first}
 use Rattle.text.proofs.Leads.{four-inv, three-inv, two-inv}
@@ -85,13 +84,13 @@ xs-run t (suc k) p h g =
     u .here ∙ (λ i. x i ∷ left i) ∙ ap (λ (q : ℕ). 120 ∷ (xs k ++ rest t q)) n
 
 module _ (m : ℕ → Bool) (s : List ℕ) where
-  scalars : (cs : List ℕ) (p : ℕ) → cs ≡ rest s p → placeAfter base cs p ≡ length s → Even m cs p → rest (paint m s 0) p ≡ flat m cs p
+  scalars : (cs : List ℕ) (p : ℕ) → cs ≡ rest s p → placeAfter width cs p ≡ length s → Even m cs p → rest (paint m s 0) p ≡ flat m cs p
   unfolding placeAfter flat
   scalars [] p e h g = rest-end (paint m s 0) p (let l = paint-length m s 0 in omega arith)
   scalars (v ∷ cs) p e h g =
       let t = paint m s 0 in
       let ih = scalars cs (p + width v) (rest-tail s p v cs e) h (g .1) in
-      let room = after-le base cs (p + width v) in
+      let room = after-le width cs (p + width v) in
       let len = paint-length m s 0 in
       let from0 : (i : ℕ) → p + i ≡ 0 + (p + i) = λ i. omega arith in
       split (m p)
@@ -102,4 +101,4 @@ module _ (m : ℕ → Bool) (s : List ℕ) where
 
   pub painted-scalars : soundTo s ≡ length s → Even m (rest s 0) 0 → rest (paint m s 0) 0 ≡ flat m (rest s 0) 0
   unfolding soundTo
-  painted-scalars h g = scalars (rest s 0) 0 refl (base-after (rest s 0) 0 ∙ h) g
+  painted-scalars h g = scalars (rest s 0) 0 refl (bytes-after (rest s 0) 0 ∙ h) g

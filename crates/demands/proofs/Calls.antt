@@ -11,6 +11,7 @@ use Rattle.listing.specs.Listing.{listOf, storedOf}
 use Rattle.listing.specs.declared.Listed.{Listed}
 use Rattle.outline.specs.Outline.{outlineOf, writtenOf}
 use Rattle.outline.specs.declared.Outlined.{Outlined}
+use Rattle.readers.specs.declared.reading.Reading.{Reading}
 use Rattle.sound.specs.Source.{boundary, positionTest, sourceTest}
 use Rattle.sound.specs.declared.Tested.{Tested}
 use Rattle.text.specs.Utf8.{scalarAt, secondAt}
@@ -34,20 +35,20 @@ module _ (s : List ℕ) where
     pub test-position-determined : (r q : Tested) → r ≡ positionTest s at → q ≡ positionTest s at → r ≡ q
     test-position-determined r q h k = determined r q h k
 
-    pub next-determined : (r q : Read) → r ≡ nextAt s at → q ≡ nextAt s at → r ≡ q
-    next-determined r q h k = determined r q h k
+    pub next-determined : (g : Reading) (r q : Read) → r ≡ nextAt g s at → q ≡ nextAt g s at → r ≡ q
+    next-determined g r q h k = determined r q h k
 
-    pub later-determined : (r q : Read) → r ≡ laterAt s at → q ≡ laterAt s at → r ≡ q
-    later-determined r q h k = determined r q h k
+    pub later-determined : (g : Reading) (r q : Read) → r ≡ laterAt g s at → q ≡ laterAt g s at → r ≡ q
+    later-determined g r q h k = determined r q h k
 
-    pub read-determined : (r q : Read) → r ≡ readAt s at → q ≡ readAt s at → r ≡ q
-    read-determined r q h k = determined r q h k
+    pub read-determined : (g : Reading) (r q : Read) → r ≡ readAt g s at → q ≡ readAt g s at → r ≡ q
+    read-determined g r q h k = determined r q h k
 
-  module _ (out : List ℕ) where
-    pub list-determined : (r q : Listed) (v w : List ℕ) → (r ≡ listOf s (length out)) × (v ≡ sets out 0 (storedOf s (length out)))
-        → (q ≡ listOf s (length out)) × (w ≡ sets out 0 (storedOf s (length out))) → (r ≡ q) × (v ≡ w)
+  module _ (g : Reading) (out : List ℕ) where
+    pub list-determined : (r q : Listed) (v w : List ℕ) → (r ≡ listOf g s (length out)) × (v ≡ sets out 0 (storedOf g s (length out)))
+        → (q ≡ listOf g s (length out)) × (w ≡ sets out 0 (storedOf g s (length out))) → (r ≡ q) × (v ≡ w)
     list-determined r q v w h k = determined-both r q v w h k
 
-    pub outline-determined : (r q : Outlined) (v w : List ℕ) → (r ≡ outlineOf s (length out)) × (v ≡ sets out 0 (writtenOf s (length out)))
-        → (q ≡ outlineOf s (length out)) × (w ≡ sets out 0 (writtenOf s (length out))) → (r ≡ q) × (v ≡ w)
+    pub outline-determined : (r q : Outlined) (v w : List ℕ) → (r ≡ outlineOf g s (length out)) × (v ≡ sets out 0 (writtenOf g s (length out)))
+        → (q ≡ outlineOf g s (length out)) × (w ≡ sets out 0 (writtenOf g s (length out))) → (r ≡ q) × (v ≡ w)
     outline-determined r q v w h k = determined-both r q v w h k

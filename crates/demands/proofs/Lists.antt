@@ -2,23 +2,27 @@
 use Prim.Native.Nat.{ℕ, suc, _+_, _-_, _≤_}
 use mathlib.Core.Path.{_≡_, refl, sym, ap, _∙_}
 use mathlib.Core.List.{List, _∷_}
+use mathlib.Core.Bool.{true}
 use native.Mathlib.Omega.{arith}
 use lib.Dec.{ltb}
 use lib.ListN.{length}
 use borrow.Author.Tests.{eq-eqb, le-ltb}
 use Rattle.demands.proofs.Outlines.{outline-length, outline-sound, outline-tokens, outline-twice}
 use Rattle.demands.specs.Plain.{plainTokens, plainWords}
-use Rattle.families.proofs.Base.{base-sane}
+use Rattle.families.proofs.Base.{reading-sane}
 use Rattle.families.specs.Sane.{Sane}
 use Rattle.laws.proofs.Cases.{split}
 use Rattle.listing.specs.Listing.{answerOf, listOf, storedOf, wordsOf}
 use Rattle.numbers.proofs.Inverse.{plain-number}
-use Rattle.outline.specs.Outline.{outlineOf, outlined, writtenOf}
-use Rattle.readers.specs.Rules.{Rules, base}
+use Rattle.outline.specs.Outline.{insideAt, outlineOf, outlined, paint, writtenOf}
+use Rattle.readers.specs.Rules.{Rules, firstClose, rulesOf, rune}
+use Rattle.readers.specs.declared.reading.Reading.{Reading}
 use Rattle.sound.proofs.Places.{sound-inv}
 use Rattle.sound.specs.Source.{soundTo, sourceTest}
 use Rattle.sound.specs.declared.Tested.the-variants.{Sound}
 use Rattle.text.specs.Utf8.{width}
+use Rattle.tokens.proofs.Switch.{switch-safe}
+use Rattle.tokens.specs.Switch.{switchSafe}
 use Rattle.tokens.specs.Tokens.{Tokens, countOf, fin, halt, more, tokensAt}
 use Rattle.outline.specs.Outline as shade
 
@@ -87,51 +91,66 @@ module _ (R : Rules) (bytes : R .wide ≡ width) (sane : Sane R) where
     equal-answer = sym (outline-answer s h room) ∙ ap (λ (l : List ℕ). answerOf (tokensAt R l 0) room 0) e ∙ outline-answer t k room
 
 -- what the calls answer and store for a source that passes the tests
-module _ (s : List ℕ) (h : sourceTest s ≡ Sound) (room : ℕ) where
-  list-sound : listOf s room ≡ answerOf (tokensAt base s 0) room 0
+module _ (g : Reading) (s : List ℕ) (h : sourceTest s ≡ Sound) (room : ℕ) where
+  list-sound : listOf g s room ≡ answerOf (tokensAt (rulesOf g) s 0) room 0
   unfolding listOf
   list-sound = rw (h, listOf)
 
-  stored-sound : storedOf s room ≡ wordsOf (tokensAt base s 0) room
+  stored-sound : storedOf g s room ≡ wordsOf (tokensAt (rulesOf g) s 0) room
   unfolding storedOf
   stored-sound = rw (h, storedOf)
 
-  written-sound : length s ≤ room → writtenOf s room ≡ outlined base s
+  written-sound : length s ≤ room → writtenOf g s room ≡ outlined (rulesOf g) s
   unfolding writtenOf
   written-sound l = rw (h, writtenOf) (rw (le-ltb room (length s) l))
 
-  outlined-sound : length s ≤ room → outlineOf s room ≡ shade.answerOf (tokensAt base s 0)
+  outlined-sound : length s ≤ room → outlineOf g s room ≡ shade.answerOf (tokensAt (rulesOf g) s 0)
   unfolding outlineOf
   outlined-sound l = rw (h, outlineOf) (rw (le-ltb room (length s) l))
 
-module _ (s : List ℕ) (h : sourceTest s ≡ Sound) (room : ℕ) where
-  test : sourceTest (outlined base s) ≡ Sound
-  test = outline-test base refl base-sane s h
+module _ (g : Reading) (s : List ℕ) (h : sourceTest s ≡ Sound) (room : ℕ) where
+  test : sourceTest (outlined (rulesOf g) s) ≡ Sound
+  test = outline-test (rulesOf g) refl (reading-sane g) s h
 
   -- the same refusal and the same count
-  pub outline-lists : listOf (outlined base s) room ≡ listOf s room
-  outline-lists = list-sound (outlined base s) test room ∙ outline-answer base refl base-sane s h room ∙ sym (list-sound s h room)
+  pub outline-lists : listOf g (outlined (rulesOf g) s) room ≡ listOf g s room
+  outline-lists = list-sound g (outlined (rulesOf g) s) test room ∙ outline-answer (rulesOf g) refl (reading-sane g) s h room ∙ sym (list-sound g s h room)
 
   -- the same spans, and the same kinds up to the escape mark
-  pub outline-stores : storedOf (outlined base s) room ≡ plainWords (storedOf s room)
-  outline-stores = stored-sound (outlined base s) test room ∙ outline-words base refl base-sane s h room ∙ ap plainWords (sym (stored-sound s h room))
+  pub outline-stores : storedOf g (outlined (rulesOf g) s) room ≡ plainWords (storedOf g s room)
+  outline-stores = stored-sound g (outlined (rulesOf g) s) test room ∙ outline-words (rulesOf g) refl (reading-sane g) s h room ∙ ap plainWords (sym (stored-sound g s h room))
 
   -- the outline of what was written is what was written, with the same answer
-  pub outline-again : length s ≤ room → writtenOf (writtenOf s room) room ≡ writtenOf s room
+  pub outline-again : length s ≤ room → writtenOf g (writtenOf g s room) room ≡ writtenOf g s room
   outline-again l =
-      let fits : length (outlined base s) ≤ room = let z = outline-length base s in omega arith in
-      ap (λ (t : List ℕ). writtenOf t room) (written-sound s h room l)
-      ∙ written-sound (outlined base s) test room fits ∙ outline-twice base refl base-sane s (sound-inv s h .1) ∙ sym (written-sound s h room l)
+      let fits : length (outlined (rulesOf g) s) ≤ room = let z = outline-length (rulesOf g) s in omega arith in
+      ap (λ (t : List ℕ). writtenOf g t room) (written-sound g s h room l)
+      ∙ written-sound g (outlined (rulesOf g) s) test room fits ∙ outline-twice (rulesOf g) refl (reading-sane g) s (sound-inv s h .1) ∙ sym (written-sound g s h room l)
 
-  pub outline-ends : length s ≤ room → outlineOf (writtenOf s room) room ≡ outlineOf s room
+  pub outline-ends : length s ≤ room → outlineOf g (writtenOf g s room) room ≡ outlineOf g s room
   outline-ends l =
-      let fits : length (outlined base s) ≤ room = let z = outline-length base s in omega arith in
-      ap (λ (t : List ℕ). outlineOf t room) (written-sound s h room l)
-      ∙ outlined-sound (outlined base s) test room fits ∙ outline-stops base refl base-sane s h ∙ sym (outlined-sound s h room l)
+      let fits : length (outlined (rulesOf g) s) ≤ room = let z = outline-length (rulesOf g) s in omega arith in
+      ap (λ (t : List ℕ). outlineOf g t room) (written-sound g s h room l)
+      ∙ outlined-sound g (outlined (rulesOf g) s) test room fits ∙ outline-stops (rulesOf g) refl (reading-sane g) s h ∙ sym (outlined-sound g s h room l)
 
-module _ (s t : List ℕ) (h : sourceTest s ≡ Sound) (k : sourceTest t ≡ Sound) (e : outlined base s ≡ outlined base t) (room : ℕ) where
-  pub equal-lists : listOf s room ≡ listOf t room
-  equal-lists = list-sound s h room ∙ equal-answer base refl base-sane s t h k e room ∙ sym (list-sound t k room)
+module _ (g : Reading) (s t : List ℕ) (h : sourceTest s ≡ Sound) (k : sourceTest t ≡ Sound) (e : outlined (rulesOf g) s ≡ outlined (rulesOf g) t) (room : ℕ) where
+  pub equal-lists : listOf g s room ≡ listOf g t room
+  equal-lists = list-sound g s h room ∙ equal-answer (rulesOf g) refl (reading-sane g) s t h k e room ∙ sym (list-sound g t k room)
 
-  pub equal-stores : plainWords (storedOf s room) ≡ plainWords (storedOf t room)
-  equal-stores = ap plainWords (stored-sound s h room) ∙ equal-words base refl base-sane s t h k e room ∙ ap plainWords (sym (stored-sound t k room))
+  pub equal-stores : plainWords (storedOf g s room) ≡ plainWords (storedOf g t room)
+  equal-stores = ap plainWords (stored-sound g s h room) ∙ equal-words (rulesOf g) refl (reading-sane g) s t h k e room ∙ ap plainWords (sym (stored-sound g t k room))
+
+-- a source whose list is safe lists, stores and is outlined in rune's reading as where the first `*/` closes
+module _ (s : List ℕ) (h : sourceTest s ≡ Sound) (safe : switchSafe s (tokensAt (rulesOf firstClose) s 0) ≡ true) (room : ℕ) where
+  same : tokensAt (rulesOf rune) s 0 ≡ tokensAt (rulesOf firstClose) s 0
+  same = switch-safe s safe
+
+  pub switch-lists : listOf rune s room ≡ listOf firstClose s room
+  switch-lists = list-sound rune s h room ∙ ap (λ (ts : Tokens). answerOf ts room 0) same ∙ sym (list-sound firstClose s h room)
+
+  pub switch-stores : storedOf rune s room ≡ storedOf firstClose s room
+  switch-stores = stored-sound rune s h room ∙ ap (λ (ts : Tokens). wordsOf ts room) same ∙ sym (stored-sound firstClose s h room)
+
+  pub switch-outlines : length s ≤ room → writtenOf rune s room ≡ writtenOf firstClose s room
+  unfolding outlined
+  switch-outlines l = written-sound rune s h room l ∙ ap (λ (ts : Tokens). paint (insideAt ts) s 0) same ∙ sym (written-sound firstClose s h room l)

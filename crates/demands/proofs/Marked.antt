@@ -15,7 +15,6 @@ use Rattle.lexer.specs.Next.{isShebang}
 use Rattle.marks.specs.Shut.{isShut}
 use Rattle.numbers.specs.Kinds.{hasInside, numberOf, plainKind}
 use Rattle.outline.specs.Outline.{insideToken}
-use Rattle.readers.specs.Rules.{base}
 use Rattle.text.specs.Utf8.{width}
 use Rattle.token.specs.declared.kind.Kind.{Kind}
 use Rattle.token.specs.declared.read.Token.{Token}
@@ -75,7 +74,7 @@ form-closes (stringForm false false) = refl
 form-closes (templateForm true) = refl
 form-closes (templateForm false) = refl
 
-pub opens-far : (f : Form) (p : ℕ) → placeAfter base (openMark f) p ≡ p + length (openMark f)
+pub opens-far : (f : Form) (p : ℕ) → placeAfter width (openMark f) p ≡ p + length (openMark f)
 unfolding placeAfter width
 opens-far lineForm p = omega arith
 opens-far (commentForm c) p = omega arith
@@ -83,7 +82,7 @@ opens-far (stringForm true e) p = omega arith
 opens-far (stringForm false e) p = omega arith
 opens-far (templateForm c) p = omega arith
 
-pub closes-far : (f : Form) (p : ℕ) → placeAfter base (closeMark f) p ≡ p + length (closeMark f)
+pub closes-far : (f : Form) (p : ℕ) → placeAfter width (closeMark f) p ≡ p + length (closeMark f)
 unfolding placeAfter width
 closes-far lineForm p = omega arith
 closes-far (commentForm true) p = omega arith

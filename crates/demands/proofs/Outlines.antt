@@ -11,7 +11,7 @@ use Rattle.demands.proofs.Plains.{inside-plain, plain-again}
 use Rattle.demands.proofs.Same.{same-tokens}
 use Rattle.demands.specs.Plain.{inBytes, plainTokens}
 use Rattle.demands.specs.Scalars.{Even, flat}
-use Rattle.families.proofs.Ends.{base-after}
+use Rattle.families.proofs.Ends.{bytes-after}
 use Rattle.families.specs.Moves.{withWide}
 use Rattle.families.specs.Sane.{Sane}
 use Rattle.laws.proofs.Cases.{split}
@@ -84,7 +84,7 @@ module _ (R : Rules) (bytes : R .wide ≡ width) (sane : Sane R) where
     unfolding soundTo
     outline-sound =
         let m = insideAt (tokensAt R s 0) in
-        ap (λ (l : List ℕ). after l 0) outline-scalars ∙ sym (base-after (flat m (rest s 0) 0) 0) ∙ flat-after m (rest s 0) 0 0 ∙ base-after (rest s 0) 0 ∙ h ∙ sym (outline-length R s)
+        ap (λ (l : List ℕ). after l 0) outline-scalars ∙ sym (bytes-after (flat m (rest s 0) 0) 0) ∙ flat-after m (rest s 0) 0 0 ∙ bytes-after (rest s 0) 0 ∙ h ∙ sym (outline-length R s)
 
     pub outline-twice : outlined R (outlined R s) ≡ outlined R s
     unfolding outlined

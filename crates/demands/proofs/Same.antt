@@ -17,7 +17,7 @@ use Rattle.laws.proofs.Cases.{never, split}
 use Rattle.lexer.specs.Next.{nextOf}
 use Rattle.outline.specs.Outline.{insideAt, insideToken}
 use Rattle.readers.proofs.Lands.{lands-le}
-use Rattle.readers.specs.Rules.{Rules, base}
+use Rattle.readers.specs.Rules.{Rules}
 use Rattle.text.proofs.Decode.{width-pos}
 use Rattle.text.specs.Utf8.{width}
 use Rattle.token.specs.Reads.{reachedOf}
@@ -46,16 +46,16 @@ module _ (R : Rules) (n : ℕ) where
   arrived [] t = refl
   arrived (v ∷ cs) t = rw (le-ltb t t (omega arith), le-ltb t 0 (omega arith), tokensOf)
 
-  pass : (a x : List ℕ) (p : ℕ) → tokensOf (inBytes R) n (placeAfter base a p) (a ++ x) p ≡ listed x (placeAfter base a p)
+  pass : (a x : List ℕ) (p : ℕ) → tokensOf (inBytes R) n (placeAfter width a p) (a ++ x) p ≡ listed x (placeAfter width a p)
   unfolding tokensOf placeAfter
   pass [] x p = arrived x p
   pass (v ∷ a) x p =
-      let l = after-le base a (p + width v) in
+      let l = after-le width a (p + width v) in
       let w = width-pos v in
-      rw (lt-ltb p (placeAfter base a (p + width v)) (omega arith), tokensOf) (pass a x (p + width v))
+      rw (lt-ltb p (placeAfter width a (p + width v)) (omega arith), tokensOf) (pass a x (p + width v))
 
   -- a token read over a front, then the rest
-  pub tokens-on : (a x : List ℕ) (p : ℕ) (k : Token) → nextOf (inBytes R) n (a ++ x) p ≡ Got k → placeAfter base a p ≡ k .span .end → p < k .span .end → listed (a ++ x) p ≡ more k (listed x (k .span .end))
+  pub tokens-on : (a x : List ℕ) (p : ℕ) (k : Token) → nextOf (inBytes R) n (a ++ x) p ≡ Got k → placeAfter width a p ≡ k .span .end → p < k .span .end → listed (a ++ x) p ≡ more k (listed x (k .span .end))
   unfolding tokensOf placeAfter
   tokens-on [] x p k e h l = absurd (omega arith)
   tokens-on (v ∷ a) x p k e h l =
@@ -149,7 +149,7 @@ module _ (R : Rules) (n : ℕ) where
         let h = ih back end left m mask in
         let x = flat m back end in
         let t = s .paints m (λ i l u. a i l ∙ first-in k ts i u) in
-        let places : placeAfter base (s .shown) p ≡ end = ap (λ (l : List ℕ). placeAfter base l p) (sym (t .0)) ∙ flat-after m front p p ∙ s .ends in
+        let places : placeAfter width (s .shown) p ≡ end = ap (λ (l : List ℕ). placeAfter width l p) (sym (t .0)) ∙ flat-after m front p p ∙ s .ends in
         let again = tokens-on (s .shown) x p (plainToken k) (s .reads x (near ts back end left m mask)) places past in
         let cut : flat m (front ++ back) p ≡ s .shown ++ x = flat-append m front back p ∙ (λ j. t .0 j ++ flat m back (s .ends j)) in (
           subst (λ (l : List ℕ). Even m l p) (sym (s .whole)) (even-append m front back p (t .1) (subst (λ (z : ℕ). Even m back z) (sym (s .ends)) (h .0))),

@@ -1,7 +1,7 @@
 -- What the list of tokens must know of one token and its painted scalars. Assumes nothing.
 use Prim.Native.Nat.{ℕ, _+_, _≤_, _<_}
-use mathlib.Core.Path.{_≡_, refl, sym, ap, _∙_, subst}
-use mathlib.Core.List.{List, [], _∷_, _++_, append-assoc}
+use mathlib.Core.Path.{_≡_, sym, ap, _∙_, subst}
+use mathlib.Core.List.{List, _++_, append-assoc}
 use mathlib.Core.Bool.{Bool, true, false}
 use mathlib.Core.Logic.{⊎-elim}
 use native.Mathlib.Omega.{arith}
@@ -26,7 +26,7 @@ use Rattle.lexer.specs.Next.{closeSpan, nextOf}
 use Rattle.numbers.specs.Kinds.{hasInside}
 use Rattle.outline.specs.Outline.{insideToken}
 use Rattle.readers.specs.Readers.{shut}
-use Rattle.readers.specs.Rules.{Rules, base}
+use Rattle.readers.specs.Rules.{Rules}
 use Rattle.templates.specs.Body.{tokenOf}
 use Rattle.text.proofs.Decode.{width-pos}
 use Rattle.text.specs.Utf8.{width}
@@ -37,11 +37,6 @@ use Rattle.token.specs.declared.read.Read.the-variants.{Got, Refused}
 use Rattle.token.specs.declared.read.Token.{Token}
 use Rattle.tokens.proofs.Starred.{reads}
 use Rattle.marks.specs.Marks as kept
-
-pub in-bytes : (R : Rules) (f : List ℕ) (p : ℕ) → placeAfter (inBytes R) f p ≡ placeAfter base f p
-unfolding placeAfter
-in-bytes R [] p = refl
-in-bytes R (v ∷ f) p = in-bytes R f (p + width v)
 
 -- rules in bytes are sane where no word starts with a backtick
 pub bytes-sane : (R : Rules) → R .start 96 ≡ false → Sane (inBytes R)
@@ -66,7 +61,7 @@ module _ (R : Rules) (n : ℕ) where
     pub back : List ℕ
     pub shown : List ℕ
     pub whole : cs ≡ front ++ back
-    pub ends : placeAfter base front p ≡ k .span .end
+    pub ends : placeAfter width front p ≡ k .span .end
     pub paints : (m : ℕ → Bool) → Agrees m p k → (flat m front p ≡ shown) × Even m front p
     pub reads : (x : List ℕ) → Near back x → nextOf (inBytes R) n (shown ++ x) p ≡ Got (plainToken k)
 
@@ -78,7 +73,7 @@ module _ (R : Rules) (n : ℕ) where
     plain-shown : hasInside (k .kind) ≡ false → Shown cs p k
     plain-shown h =
         let c = next-cut (inBytes R) n cs p in
-        let ends : placeAfter base (c .front) p ≡ k .span .end = sym (in-bytes R (c .front) p) ∙ sym (c .ends) ∙ ap reachedOf e in
+        let ends : placeAfter width (c .front) p ≡ k .span .end = sym (c .ends) ∙ ap reachedOf e in
         let read : nextOf (inBytes R) n (c .front ++ c .back) p ≡ Got k = ap (λ (l : List ℕ). nextOf (inBytes R) n l p) (sym (c .whole)) ∙ e in
         let none : (m : ℕ → Bool) → Agrees m p k → Const m (c .front) p false = λ m a i l u. a i l (omega arith) ∙ in-plain k i h in
         record {
@@ -89,7 +84,7 @@ module _ (R : Rules) (n : ℕ) where
           ends = ends;
           paints = λ m a. (flat-none m (c .front) p (none m a), even-const m (c .front) p false (none m a));
           reads = λ x d.
-              next-local (inBytes R) (bytes-sane R tick) n (c .front) (c .back) x p (ap reachedOf read ∙ sym ends ∙ sym (in-bytes R (c .front) p)) d
+              next-local (inBytes R) (bytes-sane R tick) n (c .front) (c .back) x p (ap reachedOf read ∙ sym ends) d
               ∙ read ∙ (λ i. Got (record { kind = sym (plain-kind (k .kind) h) i; span = k .span }));
         }
 
@@ -105,7 +100,7 @@ module _ (R : Rules) (n : ℕ) where
       lo = p + length o
 
       hi : ℕ
-      hi = placeAfter base (f .mid) lo
+      hi = placeAfter width (f .mid) lo
 
       opens : length (kept.openMark (k .kind)) ≡ length o
       unfolding o
@@ -119,18 +114,15 @@ module _ (R : Rules) (n : ℕ) where
       unfolding o
       marked = omega (arith, opens, starts, opens-some (f .form))
 
-      at-lo : placeAfter base o p ≡ lo
+      at-lo : placeAfter width o p ≡ lo
       unfolding o lo
       at-lo = opens-far (f .form) p
 
       ends-hi : hi + length c ≡ k .span .end
       unfolding hi lo o c
       ends-hi =
-          sym (closes-far (f .form) (placeAfter base (f .mid) (p + length (openMark (f .form)))))
-          ∙ (λ i. placeAfter base (closeMark (f .form)) (placeAfter base (f .mid) (sym (opens-far (f .form) p) i)))
-          ∙ sym (in-bytes R (closeMark (f .form)) (placeAfter base (f .mid) (placeAfter base (openMark (f .form)) p)))
-          ∙ (λ i. placeAfter (inBytes R) (closeMark (f .form)) (sym (in-bytes R (f .mid) (placeAfter base (openMark (f .form)) p)) i))
-          ∙ (λ i. placeAfter (inBytes R) (closeMark (f .form)) (placeAfter (inBytes R) (f .mid) (sym (in-bytes R (openMark (f .form)) p) i)))
+          sym (closes-far (f .form) (placeAfter width (f .mid) (p + length (openMark (f .form)))))
+          ∙ (λ i. placeAfter width (closeMark (f .form)) (placeAfter width (f .mid) (sym (opens-far (f .form) p) i)))
           ∙ sym (f .ends)
 
       insides : hasInside (k .kind) ≡ true
@@ -138,7 +130,7 @@ module _ (R : Rules) (n : ℕ) where
 
       lo-hi : lo ≤ hi
       unfolding hi
-      lo-hi = after-le base (f .mid) lo
+      lo-hi = after-le width (f .mid) lo
 
       abbrev parts : List ℕ → List ℕ
       parts x = o ++ (x ++ c)
@@ -146,16 +138,16 @@ module _ (R : Rules) (n : ℕ) where
       joins : (x y : List ℕ) → parts x ++ y ≡ o ++ (x ++ (c ++ y))
       joins x y = append-assoc o (x ++ c) y ∙ ap (λ (l : List ℕ). o ++ l) (append-assoc x c y)
 
-      ends-all : placeAfter base (parts (f .mid)) p ≡ k .span .end
+      ends-all : placeAfter width (parts (f .mid)) p ≡ k .span .end
       unfolding hi c
       ends-all =
-          after-append base o (f .mid ++ c) p
-          ∙ after-append base (f .mid) c (placeAfter base o p)
-          ∙ ap (λ (z : ℕ). placeAfter base c (placeAfter base (f .mid) z)) at-lo
+          after-append width o (f .mid ++ c) p
+          ∙ after-append width (f .mid) c (placeAfter width o p)
+          ∙ ap (λ (z : ℕ). placeAfter width c (placeAfter width (f .mid) z)) at-lo
           ∙ closes-far (f .form) hi
           ∙ ends-hi
 
-      paints : (m : ℕ → Bool) → Agrees m p k → (flat m (parts (f .mid)) p ≡ parts (xs (placeAfter base (f .mid) 0))) × Even m (parts (f .mid)) p
+      paints : (m : ℕ → Bool) → Agrees m p k → (flat m (parts (f .mid)) p ≡ parts (xs (placeAfter width (f .mid) 0))) × Even m (parts (f .mid)) p
       unfolding hi lo c
       paints m a =
           let s = starts in
@@ -168,7 +160,7 @@ module _ (R : Rules) (n : ℕ) where
           let mark : Const m o p false = λ i h u. a i h (omega arith) ∙ in-before k i (omega arith) in
           let middle : Const m (f .mid) lo true = λ i h u. a i (omega arith) (omega arith) ∙ in-middle k i insides (omega arith) (omega arith) in
           let shut : Const m c hi false = λ i h u. a i (omega arith) (omega arith) ∙ in-behind k i (omega arith) in
-          let last : flat m (f .mid ++ c) lo ≡ xs (placeAfter base (f .mid) 0) ++ c =
+          let last : flat m (f .mid ++ c) lo ≡ xs (placeAfter width (f .mid) 0) ++ c =
           flat-append m (f .mid) c lo ∙ (λ i. flat-all m (f .mid) lo middle i ++ flat-none m c hi shut i) in
           let rests : Even m (f .mid ++ c) lo = even-append m (f .mid) c lo (even-const m (f .mid) lo true middle) (even-const m c hi false shut) in (
             flat-append m o (f .mid ++ c) p ∙ (λ i. flat-none m o p mark i ++ flat m (f .mid ++ c) (d i)) ∙ ap (λ (x : List ℕ). o ++ x) last,
@@ -179,7 +171,7 @@ module _ (R : Rules) (n : ℕ) where
       unfolding o c
       frame-shown =
           let B = inBytes R in
-          let j = placeAfter base (f .mid) 0 in
+          let j = placeAfter width (f .mid) 0 in
           let read : tokenOf B 64 cs p ≡ Got k =
           closed-got n (tokenOf B 64 cs p) k
           (ap (λ (l : List ℕ). closeSpan n (tokenOf B 64 l p)) (f .whole) ∙ sym (next-marked (f .form) (f .mid ++ (closeMark (f .form) ++ f .back)) p) ∙ ap (λ (l : List ℕ). nextOf B n l p) (sym (f .whole)) ∙ e) in
@@ -193,8 +185,7 @@ module _ (R : Rules) (n : ℕ) where
             reads = λ x d.
                 ap (λ (l : List ℕ). nextOf B n l p) (joins (xs j) x)
                 ∙ next-marked (f .form) (xs j ++ (closeMark (f .form) ++ x)) p
-                ∙ ap (closeSpan n) (ap (λ (z : ℕ). tokenOf B 64 (openMark (f .form) ++ (xs z ++ (closeMark (f .form) ++ x))) p) (sym (in-bytes R (f .mid) 0))
-                ∙ token-shown B (bytes-sane R tick) wide-x 63 cs p k read f x d);
+                ∙ ap (closeSpan n) (token-shown B (bytes-sane R tick) wide-x 63 cs p k read f x d);
           }
 
     pub next-shown : Shown cs p k

@@ -18,9 +18,9 @@ module _ (R : Rules) where
   unfolding placeOf placeAfter
   place-next a v cs =
       let l : length (a ++ (v ∷ [])) ≡ length a + 1 = length-append a (v ∷ []) in
-      ap (λ (z : List ℕ). placeAfter R (take (length a + 1) z) 0) (sym (append-assoc a (v ∷ []) cs))
-      ∙ ap (λ (z : List ℕ). placeAfter R z 0) (take-at (a ++ (v ∷ [])) cs (length a + 1) l) ∙ after-append R a (v ∷ []) 0
-      ∙ ap (λ (z : List ℕ). placeAfter R z 0 + R .wide v) (sym (take-at a (v ∷ cs) (length a) refl))
+      ap (λ (z : List ℕ). placeAfter (R .wide) (take (length a + 1) z) 0) (sym (append-assoc a (v ∷ []) cs))
+      ∙ ap (λ (z : List ℕ). placeAfter (R .wide) z 0) (take-at (a ++ (v ∷ [])) cs (length a + 1) l) ∙ after-append (R .wide) a (v ∷ []) 0
+      ∙ ap (λ (z : List ℕ). placeAfter (R .wide) z 0 + R .wide v) (sym (take-at a (v ∷ cs) (length a) refl))
 
   pub count-moves : (a cs : List ℕ) → Moves (counting R) (R .wide) (placeOf R (a ++ cs)) cs (length a)
   count-moves a [] = tt
@@ -29,8 +29,8 @@ module _ (R : Rules) where
       (place-next a v cs, subst (λ (z : List ℕ × ℕ). Moves (counting R) (R .wide) (placeOf R (z .0)) cs (z .1)) (λ i. (append-assoc a (v ∷ []) cs i, l i)) (count-moves (a ++ (v ∷ [])) cs))
 
   -- at the place of any scalar: those before it are a
-  pub token-counted : Sane R → (d : ℕ) (a cs : List ℕ) → tokenOf R d cs (placeAfter R a 0) ≡ mapRead (placeOf R (a ++ cs)) (tokenOf (counting R) d cs (length a))
+  pub token-counted : Sane R → (d : ℕ) (a cs : List ℕ) → tokenOf R d cs (placeAfter (R .wide) a 0) ≡ mapRead (placeOf R (a ++ cs)) (tokenOf (counting R) d cs (length a))
   unfolding placeOf
   token-counted sane d a cs =
-      ap (λ (z : List ℕ). tokenOf R d cs (placeAfter R z 0)) (sym (take-at a cs (length a) refl))
+      ap (λ (z : List ℕ). tokenOf R d cs (placeAfter (R .wide) z 0)) (sym (take-at a cs (length a) refl))
       ∙ token-moves (counting R) (R .wide) (placeOf R (a ++ cs)) (record { steps = λ v. omega arith; tick = sane .tick }) sane d cs (length a) (count-moves a cs)

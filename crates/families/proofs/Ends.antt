@@ -11,7 +11,8 @@ use Rattle.laws.proofs.Cases.{both-false, split}
 use Rattle.laws.specs.Bools.{both}
 use Rattle.lexer.specs.Next.{closeSpan, isShebang, nextOf, shebangOf}
 use Rattle.readers.proofs.Lands.{Lands, lands-le, line-lands}
-use Rattle.readers.specs.Rules.{Rules, base}
+use Rattle.readers.specs.Rules.{Rules}
+use Rattle.readers.specs.Scan.{Wide}
 use Rattle.templates.proofs.Landing.{NextLands, token-consumes, token-lands}
 use Rattle.templates.specs.Body.{tokenOf}
 use Rattle.text.specs.Utf8.{after, width}
@@ -20,17 +21,18 @@ use Rattle.token.specs.declared.kind.Kind.the-variants.{Shebang}
 use Rattle.token.specs.declared.read.Read.{Read}
 use Rattle.token.specs.declared.read.Read.the-variants.{Got, Refused}
 
-module _ (R : Rules) where
-  pub after-append : (f g : List ℕ) (p : ℕ) → placeAfter R (f ++ g) p ≡ placeAfter R g (placeAfter R f p)
+module _ (w : Wide) where
+  pub after-append : (f g : List ℕ) (p : ℕ) → placeAfter w (f ++ g) p ≡ placeAfter w g (placeAfter w f p)
   unfolding placeAfter
   after-append [] g p = refl
-  after-append (v ∷ f) g p = after-append f g (p + R .wide v)
+  after-append (v ∷ f) g p = after-append f g (p + w v)
 
-  pub after-le : (f : List ℕ) (p : ℕ) → p ≤ placeAfter R f p
+  pub after-le : (f : List ℕ) (p : ℕ) → p ≤ placeAfter w f p
   unfolding placeAfter
   after-le [] p = omega arith
-  after-le (v ∷ f) p = let h = after-le f (p + R .wide v) in omega arith
+  after-le (v ∷ f) p = let h = after-le f (p + w v) in omega arith
 
+module _ (R : Rules) where
   pub lands-cut : (cs : List ℕ) (p r : ℕ) → Lands R cs p r → Cut R cs p r
   unfolding placeAfter
   lands-cut [] p r h = record { front = []; back = []; whole = refl; ends = sym h }
@@ -75,7 +77,7 @@ module _ (R : Rules) where
     next-past n v cs p = past v cs p (reachedOf (nextOf R n (v ∷ cs) p)) (next-consumes n v cs p)
 
 -- bytes: the place after scalars as it stands in the crate `text`
-pub base-after : (f : List ℕ) (p : ℕ) → placeAfter base f p ≡ after f p
+pub bytes-after : (f : List ℕ) (p : ℕ) → placeAfter width f p ≡ after f p
 unfolding placeAfter after
-base-after [] p = refl
-base-after (v ∷ f) p = base-after f (p + width v)
+bytes-after [] p = refl
+bytes-after (v ∷ f) p = bytes-after f (p + width v)

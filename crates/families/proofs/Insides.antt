@@ -11,7 +11,7 @@ use Rattle.families.specs.Places.{placeAfter}
 use Rattle.families.specs.Shape.{Fits, Form, Framed, closeMark, commentForm, formKind, lineForm, openMark, stringForm, templateForm}
 use Rattle.laws.proofs.Cases.{never, split}
 use Rattle.readers.proofs.Scans.{by-act}
-use Rattle.readers.specs.Readers.{Comments, Quoted, closedBy, commentStep, inLine, runStep, skips, slashed, starred, strStep, text}
+use Rattle.readers.specs.Readers.{Closing, Quoted, closedBy, commentStep, inLine, runStep, skips, slashed, starred, strStep, text}
 use Rattle.readers.specs.Rules.{Rules}
 use Rattle.readers.specs.Scan.{Act, before, behind, full, on, scan}
 use Rattle.templates.specs.Body.{bodyOf, goOn}
@@ -26,11 +26,11 @@ module _ (R : Rules) where
     pub mid : List ℕ
     pub back : List ℕ
     pub whole : cs ≡ mid ++ (closeMark form ++ back)
-    pub ends : e ≡ placeAfter R (closeMark form) (placeAfter R mid p)
+    pub ends : e ≡ placeAfter (R .wide) (closeMark form) (placeAfter (R .wide) mid p)
     pub fits : Fits n form mid back
 
   -- an opening mark before it makes a token
-  pub opened : (form : Form) (cs : List ℕ) (p e : ℕ) → Inner (R .skip) form cs (placeAfter R (openMark form) p) e → Framed R (openMark form ++ cs) p (record { kind = formKind form; span = spanOf p e })
+  pub opened : (form : Form) (cs : List ℕ) (p e : ℕ) → Inner (R .skip) form cs (placeAfter (R .wide) (openMark form) p) e → Framed R (openMark form ++ cs) p (record { kind = formKind form; span = spanOf p e })
   opened form cs p e i = record { form = form; mid = i .mid; back = i .back; kind = refl; whole = ap (λ (z : List ℕ). openMark form ++ z) (i .whole); ends = i .ends; fits = i .fits }
 
   inner-cons : (n m : ℕ) (form : Form) → ((v : ℕ) (mid back : List ℕ) → Fits n form mid back → Fits m form (v ∷ mid) back) → (v : ℕ) (cs : List ℕ) (p e : ℕ) → Inner n form cs (p + R .wide v) e → Inner m form (v ∷ cs) p e
@@ -54,20 +54,20 @@ module _ (R : Rules) where
   pub inner-shut : (n : ℕ) (form : Form) (c v : ℕ) (cs : List ℕ) (p : ℕ) → closeMark form ≡ c ∷ [] → Fits n form [] cs → v ≡ c → Inner n form (v ∷ cs) p (p + R .wide v)
   unfolding placeAfter
   inner-shut n form c v cs p s f h =
-      record { mid = []; back = cs; whole = ap (λ (z : ℕ). z ∷ cs) h ∙ ap (λ (z : List ℕ). z ++ cs) (sym s); ends = ap (λ (z : ℕ). p + R .wide z) h ∙ ap (λ (z : List ℕ). placeAfter R z p) (sym s); fits = f }
+      record { mid = []; back = cs; whole = ap (λ (z : ℕ). z ∷ cs) h ∙ ap (λ (z : List ℕ). z ++ cs) (sym s); ends = ap (λ (z : ℕ). p + R .wide z) h ∙ ap (λ (z : List ℕ). placeAfter (R .wide) z p) (sym s); fits = f }
 
   -- a form without one, to the end
-  pub inner-open : (n : ℕ) (form : Form) (cs : List ℕ) (p : ℕ) → closeMark form ≡ [] → Fits n form cs [] → Inner n form cs p (placeAfter R cs p)
+  pub inner-open : (n : ℕ) (form : Form) (cs : List ℕ) (p : ℕ) → closeMark form ≡ [] → Fits n form cs [] → Inner n form cs p (placeAfter (R .wide) cs p)
   unfolding placeAfter
   inner-open n form cs p s f =
-      record { mid = cs; back = []; whole = sym (append-nil cs) ∙ ap (λ (z : List ℕ). cs ++ (z ++ [])) (sym s); ends = ap (λ (z : List ℕ). placeAfter R z (placeAfter R cs p)) (sym s); fits = f }
+      record { mid = cs; back = []; whole = sym (append-nil cs) ∙ ap (λ (z : List ℕ). cs ++ (z ++ [])) (sym s); ends = ap (λ (z : List ℕ). placeAfter (R .wide) z (placeAfter (R .wide) cs p)) (sym s); fits = f }
 
-  pub line-inner : (n : ℕ) (cs : List ℕ) (l p : ℕ) → Inner n lineForm cs p (scan (runStep inLine) R tt l cs p .place)
+  pub line-inner : (n : ℕ) (cs : List ℕ) (l p : ℕ) → Inner n lineForm cs p (scan (runStep inLine) (R .wide) tt l cs p .place)
   unfolding scan placeAfter
   line-inner n [] l p = record { mid = []; back = []; whole = refl; ends = refl; fits = tt }
   line-inner n (v ∷ cs) l p =
       split (eqb v 10) (λ h. rw (h, scan) (record { mid = []; back = v ∷ cs; whole = refl; ends = refl; fits = eqb-true v 10 h }))
-      (λ h. rw (h, scan) (inner-more n lineForm v cs p (scan (runStep inLine) R tt p cs (p + R .wide v) .place) (line-inner n cs p (p + R .wide v))))
+      (λ h. rw (h, scan) (inner-more n lineForm v cs p (scan (runStep inLine) (R .wide) tt p cs (p + R .wide v) .place) (line-inner n cs p (p + R .wide v))))
 
   -- what holds where a scan stopped behind a scalar: a family over states that each step keeps
   module _ {S : Type 0} (step : S → ℕ → List ℕ → Act S) (C : S → List ℕ → ℕ → ℕ → Type 0) where
@@ -76,15 +76,15 @@ module _ (R : Rules) where
     Keeps s v cs p (before t) = Unit
     Keeps s v cs p (behind t) = C s (v ∷ cs) p (p + R .wide v)
 
-    scan-full : ((s : S) (v : ℕ) (cs : List ℕ) (p : ℕ) → Keeps s v cs p (step s v cs)) → (s : S) (l : ℕ) (cs : List ℕ) (p : ℕ) → scan step R s l cs p .how ≡ full → C s cs p (scan step R s l cs p .place)
+    scan-full : ((s : S) (v : ℕ) (cs : List ℕ) (p : ℕ) → Keeps s v cs p (step s v cs)) → (s : S) (l : ℕ) (cs : List ℕ) (p : ℕ) → scan step (R .wide) s l cs p .how ≡ full → C s cs p (scan step (R .wide) s l cs p .place)
     unfolding scan
     scan-full k s l [] p = λ h. never (cc)
     scan-full k s l (v ∷ cs) p =
         by-act (step s v cs)
-        (λ t e. rw (e, scan) (λ h. subst (λ (x : Act S). Keeps s v cs p x) e (k s v cs p) (scan step R t p cs (p + R .wide v) .place) (scan-full k t p cs (p + R .wide v) h)))
+        (λ t e. rw (e, scan) (λ h. subst (λ (x : Act S). Keeps s v cs p x) e (k s v cs p) (scan step (R .wide) t p cs (p + R .wide v) .place) (scan-full k t p cs (p + R .wide v) h)))
         (λ t e. rw (e, scan) (λ h. never (cc))) (λ t e. rw (e, scan) (λ h. subst (λ (x : Act S). Keeps s v cs p x) e (k s v cs p)))
 
-  pub str-inner : (n : ℕ) (b e : Bool) (st : Quoted) (l : ℕ) (cs : List ℕ) (p : ℕ) → scan strStep R st l cs p .how ≡ full → Inner n (stringForm b e) cs p (scan strStep R st l cs p .place)
+  pub str-inner : (n : ℕ) (b e : Bool) (st : Quoted) (l : ℕ) (cs : List ℕ) (p : ℕ) → scan strStep (R .wide) st l cs p .how ≡ full → Inner n (stringForm b e) cs p (scan strStep (R .wide) st l cs p .place)
   unfolding strStep
   str-inner n b e = scan-full strStep (λ st cs p q. Inner n (stringForm b e) cs p q) keeps
     where
@@ -95,7 +95,7 @@ module _ (R : Rules) where
           (λ i. split (eqb v 92) (λ j. rw (i, j, strStep) (inner-more n (stringForm b e) v cs p)) (λ j. rw (i, j, strStep) (inner-more n (stringForm b e) v cs p)))
 
   -- a comment: behind a star, the star belongs to what is looked at
-  abbrev Closed : Comments → List ℕ → ℕ → ℕ → Type 0
+  abbrev Closed : Closing → List ℕ → ℕ → ℕ → Type 0
   Closed (skips k) cs p e = Inner k (commentForm true) cs p e
   Closed starred cs p e = (q : ℕ) → p ≡ q + R .wide 42 → Inner 0 (commentForm true) (42 ∷ cs) q e
 
@@ -109,11 +109,11 @@ module _ (R : Rules) where
   unfolding placeAfter
   star-shut v cs p q h z = record { mid = []; back = cs; whole = ap (λ (u : ℕ). 42 ∷ (u ∷ cs)) h; ends = (λ j. z j + R .wide (h j)); fits = omega arith }
 
-  pub comment-inner : (st : Comments) (l : ℕ) (cs : List ℕ) (p : ℕ) → scan commentStep R st l cs p .how ≡ full → Closed st cs p (scan commentStep R st l cs p .place)
+  pub comment-inner : (st : Closing) (l : ℕ) (cs : List ℕ) (p : ℕ) → scan commentStep (R .wide) st l cs p .how ≡ full → Closed st cs p (scan commentStep (R .wide) st l cs p .place)
   unfolding commentStep
   comment-inner = scan-full commentStep Closed keeps
     where
-      keeps : (st : Comments) (v : ℕ) (cs : List ℕ) (p : ℕ) → Keeps commentStep Closed st v cs p (commentStep st v cs)
+      keeps : (st : Closing) (v : ℕ) (cs : List ℕ) (p : ℕ) → Keeps commentStep Closed st v cs p (commentStep st v cs)
       keeps (skips (suc k)) v cs p = inner-cons k (suc k) (commentForm true) (λ u m b i. omega arith) v cs p
       keeps (skips zero) v cs p = split (eqb v 42) (λ i. rw (i, commentStep) (λ e. star-cons v cs p e (eqb-true v 42 i))) (λ i. rw (i, commentStep) (inner-more 0 (commentForm true) v cs p))
       keeps starred v cs p =
@@ -127,18 +127,18 @@ module _ (R : Rules) where
   Unshort (before t) = ⊥
   Unshort (behind t) = Unit
 
-  scan-whole : {S : Type 0} (step : S → ℕ → List ℕ → Act S) → ((s : S) (v : ℕ) (cs : List ℕ) → Unshort (step s v cs)) → (s : S) (l : ℕ) (cs : List ℕ) (p : ℕ) → closedBy (scan step R s l cs p .how) ≡ false → scan step R s l cs p .place ≡ placeAfter R cs p
+  scan-whole : {S : Type 0} (step : S → ℕ → List ℕ → Act S) → ((s : S) (v : ℕ) (cs : List ℕ) → Unshort (step s v cs)) → (s : S) (l : ℕ) (cs : List ℕ) (p : ℕ) → closedBy (scan step (R .wide) s l cs p .how) ≡ false → scan step (R .wide) s l cs p .place ≡ placeAfter (R .wide) cs p
   unfolding scan placeAfter
   scan-whole step k s l [] p = λ h. refl
   scan-whole {S} step k s l (v ∷ cs) p =
       by-act (step s v cs) (λ t e. rw (e, scan) (scan-whole step k t p cs (p + R .wide v)))
       (λ t e. absurd (subst (λ (x : Act S). Unshort x) e (k s v cs))) (λ t e. rw (e, scan) (λ h. never (cc)))
 
-  pub comment-whole : (st : Comments) (l : ℕ) (cs : List ℕ) (p : ℕ) → closedBy (scan commentStep R st l cs p .how) ≡ false → scan commentStep R st l cs p .place ≡ placeAfter R cs p
+  pub comment-whole : (st : Closing) (l : ℕ) (cs : List ℕ) (p : ℕ) → closedBy (scan commentStep (R .wide) st l cs p .how) ≡ false → scan commentStep (R .wide) st l cs p .place ≡ placeAfter (R .wide) cs p
   unfolding commentStep
   comment-whole = scan-whole commentStep long
     where
-      long : (st : Comments) (v : ℕ) (cs : List ℕ) → Unshort (commentStep st v cs)
+      long : (st : Closing) (v : ℕ) (cs : List ℕ) → Unshort (commentStep st v cs)
       long (skips (suc k)) v cs = tt
       long (skips zero) v cs = split (eqb v 42) (λ i. rw (i, commentStep) tt) (λ i. rw (i, commentStep) tt)
       long starred v cs = split (eqb v 47) (λ i. rw (i, commentStep) tt) (λ i. split (eqb v 42) (λ j. rw (i, j, commentStep) tt) (λ j. rw (i, j, commentStep) tt))

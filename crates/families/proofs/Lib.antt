@@ -12,3 +12,4 @@ pub mod Insides
 pub mod Shapes
 pub mod Painted
 pub mod Shown
+pub mod Sooner

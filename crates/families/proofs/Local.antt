@@ -31,7 +31,7 @@ use Rattle.token.specs.declared.read.Token.{Token}
 
 module _ (R : Rules) (sane : Sane R) where
   behind-local : (g : List ℕ → ℕ → Read) → Local R g → NextLands R g → (c : ℕ) (f x y : List ℕ) (p : ℕ) → nextIs c (f ++ x) ≡ true
-      → reachedOf (behindOne R g (f ++ x) p) ≡ placeAfter R f p → Near x y → behindOne R g (f ++ y) p ≡ behindOne R g (f ++ x) p
+      → reachedOf (behindOne R g (f ++ x) p) ≡ placeAfter (R .wide) f p → Near x y → behindOne R g (f ++ y) p ≡ behindOne R g (f ++ x) p
   unfolding placeAfter
   behind-local g k l c [] [] y p e r h = never (cc)
   behind-local g k l c [] (w ∷ x) y p e r h = absurd (let z = lands-le R x (p + R .wide w) (reachedOf (g x (p + R .wide w))) (l x (p + R .wide w)) in let s = sane .steps w in omega arith)
@@ -43,13 +43,13 @@ module _ (R : Rules) (sane : Sane R) where
   first-local : (t : Deep) → DeepLocal t → (v a : ℕ) → Local R (firstOf R t v a)
   unfolding otherOf
   first-local t d v a f x y p r h =
-      first-both R R t t v a a (f ++ x) (f ++ y) p p (λ r r′. reachedOf r ≡ placeAfter R f p → r′ ≡ r)
+      first-both R R t t v a a (f ++ x) (f ++ y) p p (λ r r′. reachedOf r ≡ placeAfter (R .wide) f p → r′ ≡ r)
       (λ c. next-head c (f ++ x) (f ++ y) (head-append f x y h)) refl
       (λ e. white-local R sane a f x y p e h)
-      (λ i e. behind-local (lineOf R Comment a) (line-local R sane a Comment) (λ ds q. line-lands R a ds q Comment) 47 f x y p (both-inv (eqb v 47) (nextIs 47 (f ++ x)) i .1) e h)
-      (λ i e. behind-local (commentOf R a) (comment-local R sane a) (comment-lands R a) 42 f x y p (both-inv (eqb v 47) (nextIs 42 (f ++ x)) i .1) e h)
-      (λ i e. behind-local (byteOf R a) (byte-local R sane a) (byte-lands R a) 39 f x y p i e h)
-      (λ i e. behind-local (strOf R true a) (str-local R sane a true) (λ ds q. str-lands R a ds q true) 34 f x y p (both-inv (eqb v 98) (nextIs 34 (f ++ x)) i .1) e h)
+      (λ i e. behind-local (lineOf (R .wide) Comment a) (line-local R sane a Comment) (λ ds q. line-lands R a ds q Comment) 47 f x y p (both-inv (eqb v 47) (nextIs 47 (f ++ x)) i .1) e h)
+      (λ i e. behind-local (commentOf (R .wide) (R .skip) a) (comment-local R sane a) (comment-lands R a) 42 f x y p (both-inv (eqb v 47) (nextIs 42 (f ++ x)) i .1) e h)
+      (λ i e. behind-local (byteOf (R .wide) a) (byte-local R sane a) (byte-lands R a) 39 f x y p i e h)
+      (λ i e. behind-local (strOf (R .wide) true a) (str-local R sane a true) (λ ds q. str-lands R a ds q true) 34 f x y p (both-inv (eqb v 98) (nextIs 34 (f ++ x)) i .1) e h)
       (λ i e. str-local R sane a false f x y p e h)
       (λ k e q z. rw (op-local R sane v f x y p (λ k′ e′ q′. let w : e′ ≡ e = cc in w ∙ z) h ∙ q))
       (λ q. op-local R sane v f x y p (λ k e z. never (cc)) h ∙ q)
@@ -57,7 +57,7 @@ module _ (R : Rules) (sane : Sane R) where
       (λ i e. d a f x y p e h) (λ e. refl) r
 
   -- a place reached before the end of a front cuts the front
-  front-cut : (f x : List ℕ) (p r : ℕ) → Lands R (f ++ x) p r → r ≤ placeAfter R f p → Cut R f p r
+  front-cut : (f x : List ℕ) (p r : ℕ) → Lands R (f ++ x) p r → r ≤ placeAfter (R .wide) f p → Cut R f p r
   unfolding placeAfter
   front-cut [] x p r h l = record { front = []; back = []; whole = refl; ends = (let z = lands-le R x p r h in omega arith) }
   front-cut (v ∷ f) x p r (inl h) l = record { front = []; back = v ∷ f; whole = refl; ends = sym h }
@@ -67,7 +67,7 @@ module _ (R : Rules) (sane : Sane R) where
 
   module _ (next : List ℕ → ℕ → Read) (g : Local R next) (nl : NextLands R next) where
     -- so a token inside a front is read the same too
-    pub within-front : (f x y : List ℕ) (p : ℕ) → reachedOf (next (f ++ x) p) ≤ placeAfter R f p → Near x y → next (f ++ y) p ≡ next (f ++ x) p
+    pub within-front : (f x y : List ℕ) (p : ℕ) → reachedOf (next (f ++ x) p) ≤ placeAfter (R .wide) f p → Near x y → next (f ++ y) p ≡ next (f ++ x) p
     within-front f x y p l h =
         let c = front-cut f x p (reachedOf (next (f ++ x) p)) (nl (f ++ x) p) l in
         let over : (z : List ℕ) → f ++ z ≡ c .front ++ (c .back ++ z) = λ z. ap (λ (b : List ℕ). b ++ z) (c .whole) ∙ append-assoc (c .front) (c .back) z in
@@ -88,9 +88,9 @@ module _ (R : Rules) (sane : Sane R) where
           rw (lt-ltb p t (omega arith), bodyOf) (body-reach t cs (p + R .wide v) l h)
 
       abbrev Ways : List ℕ → List ℕ → List ℕ → ℕ → Type 0
-      Ways f x y q = (t l : ℕ) → reachedOf (bodyOf R next a t (f ++ x) q l) ≡ placeAfter R f q → bodyOf R next a t (f ++ y) q l ≡ bodyOf R next a t (f ++ x) q l
+      Ways f x y q = (t l : ℕ) → reachedOf (bodyOf R next a t (f ++ x) q l) ≡ placeAfter (R .wide) f q → bodyOf R next a t (f ++ y) q l ≡ bodyOf R next a t (f ++ x) q l
 
-      on-local : (f x y : List ℕ) (q l : ℕ) → Ways f x y q → Near x y → (r : Read) → next (f ++ x) q ≡ r → reachedOf (goOn a r (λ t. bodyOf R next a t (f ++ x) q l)) ≡ placeAfter R f q
+      on-local : (f x y : List ℕ) (q l : ℕ) → Ways f x y q → Near x y → (r : Read) → next (f ++ x) q ≡ r → reachedOf (goOn a r (λ t. bodyOf R next a t (f ++ x) q l)) ≡ placeAfter (R .wide) f q
           → goOn a (next (f ++ y) q) (λ t. bodyOf R next a t (f ++ y) q l) ≡ goOn a r (λ t. bodyOf R next a t (f ++ x) q l)
       on-local f x y q l w h (Got k) er e =
           let lands : Lands R (f ++ x) q (k .span .end) = subst (λ (r : Read). Lands R (f ++ x) q (reachedOf r)) er (nl (f ++ x) q) in
@@ -110,7 +110,7 @@ module _ (R : Rules) (sane : Sane R) where
           let u : next (f ++ y) q ≡ Refused k = within-front f x y q (rw er (omega arith)) h ∙ er in
           rw u (rw (i, goOn) (w (k .reached) l e′)))
 
-      body-local : (t : ℕ) (f x y : List ℕ) (p l : ℕ) → reachedOf (bodyOf R next a t (f ++ x) p l) ≡ placeAfter R f p → Near x y → bodyOf R next a t (f ++ y) p l ≡ bodyOf R next a t (f ++ x) p l
+      body-local : (t : ℕ) (f x y : List ℕ) (p l : ℕ) → reachedOf (bodyOf R next a t (f ++ x) p l) ≡ placeAfter (R .wide) f p → Near x y → bodyOf R next a t (f ++ y) p l ≡ bodyOf R next a t (f ++ x) p l
       unfolding bodyOf placeAfter
       body-local t [] [] [] p l r h = refl
       body-local t [] [] (w ∷ y) p l r h = absurd h
@@ -121,7 +121,7 @@ module _ (R : Rules) (sane : Sane R) where
           let go : List ℕ → ℕ → ℕ → Read = λ z t′ l′. bodyOf R next a t′ (f ++ z) q l′ in
           split (ltb p t) (λ i. rw (i, bodyOf) (body-local t f x y q l (rw (i, bodyOf) at r) h))
           (λ i. rw (i, bodyOf)
-          (turn-both next next a a v (f ++ x) (f ++ y) q q l (go x) (go y) (λ r r′. reachedOf r ≡ placeAfter R f q → r′ ≡ r) (λ j e. refl)
+          (turn-both next next a a v (f ++ x) (f ++ y) q q l (go x) (go y) (λ r r′. reachedOf r ≡ placeAfter (R .wide) f q → r′ ≡ r) (λ j e. refl)
           (λ m e. body-local 0 f x y q m e h) (on-local f x y q l (λ t′ l′ e. body-local t′ f x y q l′ e h) h (next (f ++ x) q) refl) (rw (i, bodyOf) at r)))
 
   with-local : (d : ℕ) → DeepLocal (deepOf R d) → Local R (tokenOf R d)
@@ -149,7 +149,7 @@ module _ (R : Rules) (sane : Sane R) where
       split (both (eqb p 0) (isShebang (v ∷ (f ++ x))))
       (λ e.
       let b = both-inv (eqb v 35) (nextIs 33 (f ++ x)) (both-inv (eqb p 0) (isShebang (v ∷ (f ++ x))) e .1) .1 in
-      rw (i, e) (behind-local (lineOf R Shebang p) (line-local R sane p Shebang) (λ ds q. line-lands R p ds q Shebang) 33 f x y (p + R .wide v) b (rw e at r) h))
+      rw (i, e) (behind-local (lineOf (R .wide) Shebang p) (line-local R sane p Shebang) (λ ds q. line-lands R p ds q Shebang) 33 f x y (p + R .wide v) b (rw e at r) h))
       (λ e. rw (i, e) (ap (closeSpan n) (token-local 64 (v ∷ f) x y p (sym (close-reached R n (tokenOf R 64 (v ∷ (f ++ x)) p)) ∙ (rw e at r)) h)))
 
 -- an accepted token does not depend on where the source ends

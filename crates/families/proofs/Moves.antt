@@ -38,10 +38,10 @@ module _ (R : Rules) (w g : ℕ → ℕ) (sane : Sane R) (sane′ : Sane (withWi
   first-moves t t′ d v a cs p m =
       let op = op-moves R w g v cs p m in
       first-both R (withWide R w) t t′ v a (g a) cs cs p (g p) (λ r r′. r′ ≡ mapRead g r) (λ c. refl) refl
-      (white-moves R w g a cs p m) (λ i. behind-moves (lineOf R Comment a) (lineOf (withWide R w) Comment (g a)) (line-moves R w g a Comment) cs p m)
-      (λ i. behind-moves (commentOf R a) (commentOf (withWide R w) (g a)) (comment-moves R w g a) cs p m)
-      (λ i. behind-moves (byteOf R a) (byteOf (withWide R w) (g a)) (byte-moves R w g a) cs p m)
-      (λ i. behind-moves (strOf R true a) (strOf (withWide R w) true (g a)) (str-moves R w g a true) cs p m)
+      (white-moves R w g a cs p m) (λ i. behind-moves (lineOf (R .wide) Comment a) (lineOf w Comment (g a)) (line-moves R w g a Comment) cs p m)
+      (λ i. behind-moves (commentOf (R .wide) (R .skip) a) (commentOf w (R .skip) (g a)) (comment-moves R w g a) cs p m)
+      (λ i. behind-moves (byteOf (R .wide) a) (byteOf w (g a)) (byte-moves R w g a) cs p m)
+      (λ i. behind-moves (strOf (R .wide) true a) (strOf w true (g a)) (str-moves R w g a true) cs p m)
       (λ i. str-moves R w g a false cs p m) (λ k e q. rw (op ∙ ap (mapFound R w g) q) refl) (λ q. op ∙ ap (mapFound R w g) q)
       (word-moves R w g sane sane′ v a cs p m) (number-moves R w g a cs p m) (char-moves R w g a cs p m) (λ i. d a cs p m) refl
 
@@ -101,8 +101,8 @@ module _ (R : Rules) (w g : ℕ → ℕ) (sane : Sane R) (sane′ : Sane (withWi
   unfolding nextOf
   next-moves n cs p z m =
       split (both (eqb p 0) (isShebang cs))
-      (λ e. rw (z, e) (behind-moves (λ ds q. behindOne R (lineOf R Shebang p) ds q) (λ ds q. behindOne (withWide R w) (lineOf (withWide R w) Shebang (g p)) ds q)
-      (behind-moves (lineOf R Shebang p) (lineOf (withWide R w) Shebang (g p)) (line-moves R w g p Shebang)) cs p m))
+      (λ e. rw (z, e) (behind-moves (λ ds q. behindOne R (lineOf (R .wide) Shebang p) ds q) (λ ds q. behindOne (withWide R w) (lineOf w Shebang (g p)) ds q)
+      (behind-moves (lineOf (R .wide) Shebang p) (lineOf w Shebang (g p)) (line-moves R w g p Shebang)) cs p m))
       (λ e. rw (z, e) (ap (closeSpan (g n)) (token-moves 64 cs p m) ∙ close-moves n (tokenOf R 64 cs p)))
 
 -- all places moved on by the same

@@ -15,8 +15,7 @@ use Rattle.families.specs.Sane.{Sane}
 use Rattle.families.specs.Shape.{Fits, Form, LineEnd, closeMark, commentForm, formKind, lineForm, openMark, plainForm, stringForm, templateForm, xs}
 use Rattle.laws.specs.Tables.{inRanges}
 use Rattle.operators.specs.Operators.{findOne, findThree, findTwo, lookOne, lookThree, lookTwo, ones, operatorOf, threes, twos}
-use Rattle.readers.proofs.Steps.{commentRead}
-use Rattle.readers.specs.Readers.{commentOf, commentStep, inLine, lineOf, run, runStep, skips, strKind, strOf, strStep, text}
+use Rattle.readers.specs.Readers.{Closing, closedBy, commentEnd, commentOf, commentStep, inLine, lineOf, run, runStep, skips, strKind, strOf, strStep, text}
 use Rattle.readers.specs.Rules.{Rules}
 use Rattle.readers.specs.Scan.{Act, Stop, on, scan}
 use Rattle.templates.specs.Body.{bodyOf, templateOf, tokenOf, turnOf}
@@ -39,56 +38,60 @@ near-fits n (templateForm false) mid back j y f l h = near-end back y f h
 module _ (R : Rules) where
   -- over x, in a state that x does not change
   scan-xs : {S : Type 0} (step : S → ℕ → List ℕ → Act S) (s : S) → ((cs : List ℕ) → step s 120 cs ≡ on s) → (j l : ℕ) (x : List ℕ) (p : ℕ)
-      → (l′ : ℕ) × (scan step R s l (xs j ++ x) p ≡ scan step R s l′ x (placeAfter R (xs j) p))
+      → (l′ : ℕ) × (scan step (R .wide) s l (xs j ++ x) p ≡ scan step (R .wide) s l′ x (placeAfter (R .wide) (xs j) p))
   unfolding scan placeAfter
   scan-xs step s h zero l x p = (l, refl)
   scan-xs step s h (suc j) l x p = rw (h (xs j ++ x), scan) (scan-xs step s h j p x (p + R .wide 120))
 
-  comment-xs : (k j l : ℕ) (x : List ℕ) (p : ℕ) → (l′ : ℕ) × (scan commentStep R (skips k) l (xs j ++ x) p ≡ scan commentStep R (skips (k - j)) l′ x (placeAfter R (xs j) p))
+  comment-xs : (k j l : ℕ) (x : List ℕ) (p : ℕ) → (l′ : ℕ) × (scan commentStep (R .wide) (skips k) l (xs j ++ x) p ≡ scan commentStep (R .wide) (skips (k - j)) l′ x (placeAfter (R .wide) (xs j) p))
   unfolding scan commentStep placeAfter
-  comment-xs k zero l x p = let e : k ≡ k - 0 = omega arith in (l, ap (λ (m : ℕ). scan commentStep R (skips m) l x p) e)
+  comment-xs k zero l x p = let e : k ≡ k - 0 = omega arith in (l, ap (λ (m : ℕ). scan commentStep (R .wide) (skips m) l x p) e)
   comment-xs zero (suc j) l x p =
       let r = comment-xs zero j p x (p + R .wide 120) in let e : 0 - j ≡ 0 - suc j = omega arith in
-      (r .0, r .1 ∙ ap (λ (m : ℕ). scan commentStep R (skips m) (r .0) x (placeAfter R (xs j) (p + R .wide 120))) e)
+      (r .0, r .1 ∙ ap (λ (m : ℕ). scan commentStep (R .wide) (skips m) (r .0) x (placeAfter (R .wide) (xs j) (p + R .wide 120))) e)
   comment-xs (suc k) (suc j) l x p =
       let r = comment-xs k j p x (p + R .wide 120) in let e : k - j ≡ suc k - suc j = omega arith in
-      (r .0, r .1 ∙ ap (λ (m : ℕ). scan commentStep R (skips m) (r .0) x (placeAfter R (xs j) (p + R .wide 120))) e)
+      (r .0, r .1 ∙ ap (λ (m : ℕ). scan commentStep (R .wide) (skips m) (r .0) x (placeAfter (R .wide) (xs j) (p + R .wide 120))) e)
 
-  body-xs : (next : List ℕ → ℕ → Read) (a j : ℕ) (x : List ℕ) (p : ℕ) → bodyOf R next a 0 (xs j ++ x) p 0 ≡ bodyOf R next a 0 x (placeAfter R (xs j) p) 0
+  body-xs : (next : List ℕ → ℕ → Read) (a j : ℕ) (x : List ℕ) (p : ℕ) → bodyOf R next a 0 (xs j ++ x) p 0 ≡ bodyOf R next a 0 x (placeAfter (R .wide) (xs j) p) 0
   unfolding bodyOf turnOf placeAfter
   body-xs next a zero x p = refl
   body-xs next a (suc j) x p = rw (le-ltb p 0 (omega arith), bodyOf) (body-xs next a j x (p + R .wide 120))
 
   -- the readers, from behind an opening mark on
   module _ (a j : ℕ) (p : ℕ) where
-    line-painted : (x : List ℕ) → LineEnd x → lineOf R Comment a (xs j ++ x) p ≡ gotOf Comment a (placeAfter R (xs j) p)
+    line-painted : (x : List ℕ) → LineEnd x → lineOf (R .wide) Comment a (xs j ++ x) p ≡ gotOf Comment a (placeAfter (R .wide) (xs j) p)
     unfolding lineOf run scan
-    line-painted x f = let r = scan-xs (runStep inLine) tt (λ cs. refl) j p x p in ap (λ (o : Stop Unit). gotOf Comment a (o .place)) (r .1) ∙ ends x f (r .0) (placeAfter R (xs j) p)
+    line-painted x f = let r = scan-xs (runStep inLine) tt (λ cs. refl) j p x p in ap (λ (o : Stop Unit). gotOf Comment a (o .place)) (r .1) ∙ ends x f (r .0) (placeAfter (R .wide) (xs j) p)
       where
-        ends : (x : List ℕ) → LineEnd x → (l q : ℕ) → gotOf Comment a (scan (runStep inLine) R tt l x q .place) ≡ gotOf Comment a q
+        ends : (x : List ℕ) → LineEnd x → (l q : ℕ) → gotOf Comment a (scan (runStep inLine) (R .wide) tt l x q .place) ≡ gotOf Comment a q
         ends [] f l q = refl
         ends (v ∷ x) f l q = rw (eq-eqb v 10 f, scan) refl
 
-    comment-painted : (x : List ℕ) → R .skip ≤ j → commentOf R a (xs j ++ (42 ∷ (47 ∷ x))) p ≡ gotOf (MultilineComment true) a (placeAfter R (xs j) p + R .wide 42 + R .wide 47)
-    unfolding commentOf scan commentStep
+    -- a comment's answer, of where its scan stopped
+    abbrev commentRead : Stop Closing → Read
+    commentRead o = gotOf (MultilineComment (closedBy (o .how))) a (o .place)
+
+    comment-painted : (x : List ℕ) → R .skip ≤ j → commentOf (R .wide) (R .skip) a (xs j ++ (42 ∷ (47 ∷ x))) p ≡ gotOf (MultilineComment true) a (placeAfter (R .wide) (xs j) p + R .wide 42 + R .wide 47)
+    unfolding commentOf commentEnd scan commentStep
     comment-painted x f =
         let r = comment-xs (R .skip) j p (42 ∷ (47 ∷ x)) p in let e : R .skip - j ≡ 0 = omega arith in
-        ap (commentRead a) (r .1 ∙ ap (λ (m : ℕ). scan commentStep R (skips m) (r .0) (42 ∷ (47 ∷ x)) (placeAfter R (xs j) p)) e)
+        ap commentRead (r .1 ∙ ap (λ (m : ℕ). scan commentStep (R .wide) (skips m) (r .0) (42 ∷ (47 ∷ x)) (placeAfter (R .wide) (xs j) p)) e)
 
-    comment-open : commentOf R a (xs j ++ []) p ≡ gotOf (MultilineComment false) a (placeAfter R (xs j) p)
-    unfolding commentOf scan
-    comment-open = ap (commentRead a) (comment-xs (R .skip) j p [] p .1)
+    comment-open : commentOf (R .wide) (R .skip) a (xs j ++ []) p ≡ gotOf (MultilineComment false) a (placeAfter (R .wide) (xs j) p)
+    unfolding commentOf commentEnd scan
+    comment-open = ap commentRead (comment-xs (R .skip) j p [] p .1)
 
-    str-painted : (b : Bool) (x : List ℕ) → strOf R b a (xs j ++ (34 ∷ x)) p ≡ gotOf (strKind b false) a (placeAfter R (xs j) p + R .wide 34)
+    str-painted : (b : Bool) (x : List ℕ) → strOf (R .wide) b a (xs j ++ (34 ∷ x)) p ≡ gotOf (strKind b false) a (placeAfter (R .wide) (xs j) p + R .wide 34)
     unfolding strOf scan strStep
     str-painted b x = rw (scan-xs strStep (text false) (λ cs. refl) j p (34 ∷ x) p .1) refl
 
     module _ (next : List ℕ → ℕ → Read) where
-      template-painted : (x : List ℕ) → bodyOf R next a 0 (xs j ++ (96 ∷ x)) p 0 ≡ gotOf (Template true) a (placeAfter R (xs j) p + R .wide 96)
+      template-painted : (x : List ℕ) → bodyOf R next a 0 (xs j ++ (96 ∷ x)) p 0 ≡ gotOf (Template true) a (placeAfter (R .wide) (xs j) p + R .wide 96)
       unfolding bodyOf turnOf
-      template-painted x = body-xs next a j (96 ∷ x) p ∙ rw (le-ltb (placeAfter R (xs j) p) 0 (omega arith), bodyOf) refl
+      template-painted x = body-xs next a j (96 ∷ x) p ∙ rw (le-ltb (placeAfter (R .wide) (xs j) p) 0 (omega arith), bodyOf) refl
 
-      template-open : bodyOf R next a 0 (xs j ++ []) p 0 ≡ gotOf (Template false) a (placeAfter R (xs j) p)
+      template-open : bodyOf R next a 0 (xs j ++ []) p 0 ≡ gotOf (Template false) a (placeAfter (R .wide) (xs j) p)
       unfolding bodyOf
       template-open = body-xs next a j [] p
 
@@ -106,7 +109,7 @@ module _ (R : Rules) where
 
     pub token-painted : (form : Form) (j : ℕ) (x : List ℕ) (p : ℕ) → Fits (R .skip) form (xs j) x
         → tokenOf R (suc d) (openMark form ++ (xs j ++ (closeMark form ++ x))) p
-        ≡ gotOf (formKind (plainForm form)) p (placeAfter R (closeMark form) (placeAfter R (xs j) (placeAfter R (openMark form) p)))
+        ≡ gotOf (formKind (plainForm form)) p (placeAfter (R .wide) (closeMark form) (placeAfter (R .wide) (xs j) (placeAfter (R .wide) (openMark form) p)))
     unfolding firstOf placeAfter inRanges whiteSpace templateOf
     token-painted lineForm j x p f = by-rule 47 (47 ∷ (xs j ++ x)) p ∙ line-painted p j (p + R .wide 47 + R .wide 47) x f
     token-painted (commentForm true) j x p f =

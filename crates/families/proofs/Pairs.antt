@@ -29,15 +29,15 @@ module _ (R R′ : Rules) (t t′ : Deep) (v a a′ : ℕ) (cs cs′ : List ℕ)
 
   pub first-both :
       ((c : ℕ) → nextIs c cs′ ≡ nextIs c cs) → R′ .start v ≡ R .start v
-      → P (whiteOf R a cs p) (whiteOf R′ a′ cs′ p′)
-      → (both (eqb v 47) (nextIs 47 cs) ≡ true → P (behindOne R (lineOf R Comment a) cs p) (behindOne R′ (lineOf R′ Comment a′) cs′ p′))
-      → (both (eqb v 47) (nextIs 42 cs) ≡ true → P (behindOne R (commentOf R a) cs p) (behindOne R′ (commentOf R′ a′) cs′ p′))
-      → (nextIs 39 cs ≡ true → P (behindOne R (byteOf R a) cs p) (behindOne R′ (byteOf R′ a′) cs′ p′))
-      → (both (eqb v 98) (nextIs 34 cs) ≡ true → P (behindOne R (strOf R true a) cs p) (behindOne R′ (strOf R′ true a′) cs′ p′))
-      → (eqb v 34 ≡ true → P (strOf R false a cs p) (strOf R′ false a′ cs′ p′))
-      → ((k : Kind) (e : ℕ) → operatorOf R v cs p ≡ Found k e → P (gotOf k a e) (otherOf R′ t′ v a′ cs′ p′))
-      → (operatorOf R v cs p ≡ Nothing → operatorOf R′ v cs′ p′ ≡ Nothing)
-      → P (wordOf R v a cs p) (wordOf R′ v a′ cs′ p′) → P (numberLitOf R a cs p) (numberLitOf R′ a′ cs′ p′) → P (charOf R a cs p) (charOf R′ a′ cs′ p′)
+      → P (whiteOf (R .wide) a cs p) (whiteOf (R′ .wide) a′ cs′ p′)
+      → (both (eqb v 47) (nextIs 47 cs) ≡ true → P (behindOne R (lineOf (R .wide) Comment a) cs p) (behindOne R′ (lineOf (R′ .wide) Comment a′) cs′ p′))
+      → (both (eqb v 47) (nextIs 42 cs) ≡ true → P (behindOne R (commentOf (R .wide) (R .skip) a) cs p) (behindOne R′ (commentOf (R′ .wide) (R′ .skip) a′) cs′ p′))
+      → (nextIs 39 cs ≡ true → P (behindOne R (byteOf (R .wide) a) cs p) (behindOne R′ (byteOf (R′ .wide) a′) cs′ p′))
+      → (both (eqb v 98) (nextIs 34 cs) ≡ true → P (behindOne R (strOf (R .wide) true a) cs p) (behindOne R′ (strOf (R′ .wide) true a′) cs′ p′))
+      → (eqb v 34 ≡ true → P (strOf (R .wide) false a cs p) (strOf (R′ .wide) false a′ cs′ p′))
+      → ((k : Kind) (e : ℕ) → operatorOf (R .wide) v cs p ≡ Found k e → P (gotOf k a e) (otherOf R′ t′ v a′ cs′ p′))
+      → (operatorOf (R .wide) v cs p ≡ Nothing → operatorOf (R′ .wide) v cs′ p′ ≡ Nothing)
+      → P (wordOf (R .wide) (R .continue) v a cs p) (wordOf (R′ .wide) (R′ .continue) v a′ cs′ p′) → P (numberLitOf (R .wide) a cs p) (numberLitOf (R′ .wide) a′ cs′ p′) → P (charOf (R .wide) a cs p) (charOf (R′ .wide) a′ cs′ p′)
       → (eqb v 96 ≡ true → P (t a cs p) (t′ a′ cs′ p′)) → P (refusedOf 18 a p p) (refusedOf 18 a′ p′ p′) → P (firstOf R t v a cs p) (firstOf R′ t′ v a′ cs′ p′)
   unfolding firstOf otherOf leftOf
   first-both alike start white line comment byte bytes str op none word number char deep other =
@@ -48,7 +48,7 @@ module _ (R R′ : Rules) (t t′ : Deep) (v a a′ : ℕ) (cs cs′ : List ℕ)
       (pick-both (both (eqb v 98) (nextIs 39 cs)) (λ h. byte (both-inv (eqb v 98) (nextIs 39 cs) h .1))
       (pick-both (both (eqb v 98) (nextIs 34 cs)) bytes
       (pick-both (eqb v 34) str
-      (found (operatorOf R v cs p) refl)))))))
+      (found (operatorOf (R .wide) v cs p) refl)))))))
     where
       left : P (leftOf R t v a cs p) (leftOf R′ t′ v a′ cs′ p′)
       left =
@@ -56,7 +56,7 @@ module _ (R R′ : Rules) (t t′ : Deep) (v a a′ : ℕ) (cs cs′ : List ℕ)
           (pick-both (startsWord R v) (λ h. word)
           (pick-both (isDigit v) (λ h. number) (pick-both (eqb v 39) (λ h. char) (pick-both (eqb v 96) deep other))))
 
-      found : (o : Operator) → operatorOf R v cs p ≡ o → P (foundOr o a (leftOf R t v a cs p)) (otherOf R′ t′ v a′ cs′ p′)
+      found : (o : Operator) → operatorOf (R .wide) v cs p ≡ o → P (foundOr o a (leftOf R t v a cs p)) (otherOf R′ t′ v a′ cs′ p′)
       found (Found k e) q = op k e q
       found Nothing q = rw (none q) left
 

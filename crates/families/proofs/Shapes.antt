@@ -18,7 +18,7 @@ use Rattle.numbers.specs.Kinds.{hasInside, numberOf}
 use Rattle.operators.proofs.Ends.{by-length}
 use Rattle.operators.specs.Operators.{findOne, findThree, findTwo, foundAt, lookOne, lookThree, lookTwo, ones, operatorOf, threes, twos}
 use Rattle.operators.specs.declared.Operator.the-variants.{Found}
-use Rattle.readers.specs.Readers.{Bytes, Chars, Quoted, body, broken, byteAnswer, byteOf, byteStep, charAnswer, charOf, charStep, closedBy, commentOf, commentStep, control, escape, fresh, inLine, letters, lineOf, numberLitOf, run, runStep, shut, skips, slash, slashed, strAnswer, strOf, strStep, text, whiteOf, wordOf}
+use Rattle.readers.specs.Readers.{Bytes, Chars, Quoted, body, broken, byteAnswer, byteOf, byteStep, charAnswer, charOf, charStep, closedBy, commentEnd, commentOf, commentStep, control, escape, fresh, inLine, letters, lineOf, numberLitOf, run, runStep, shut, skips, slash, slashed, strAnswer, strOf, strStep, text, whiteOf, wordOf}
 use Rattle.readers.specs.Rules.{Rules}
 use Rattle.readers.specs.Scan.{How, ended, full, scan, short}
 use Rattle.templates.proofs.Landing.{deepOf, with-deep}
@@ -63,17 +63,17 @@ found-kind (Is j) p k e h = cc
 found-kind Unknown p k e h = never (cc)
 
 module _ (R : Rules) where
-  pub op-plain : (v : ℕ) (cs : List ℕ) (p : ℕ) (k : Kind) (e : ℕ) → operatorOf R v cs p ≡ Found k e → hasInside k ≡ false
+  pub op-plain : (v : ℕ) (cs : List ℕ) (p : ℕ) (k : Kind) (e : ℕ) → operatorOf (R .wide) v cs p ≡ Found k e → hasInside k ≡ false
   unfolding operatorOf findOne findTwo findThree allOf ones twos threes numberOf
   op-plain v cs p k e h =
-      by-length R (findThree R v cs p) (findTwo R v cs p) (findOne v p) k e h (three cs) (two cs)
+      by-length R (findThree (R .wide) v cs p) (findTwo (R .wide) v cs p) (findOne v p) k e h (three cs) (two cs)
       (λ q. not-true (hasInside k) (one-plain v 0 0 k ones refl (found-kind (lookOne ones v) p k e q)))
     where
-      two : (cs : List ℕ) → findTwo R v cs p ≡ Found k e → hasInside k ≡ false
+      two : (cs : List ℕ) → findTwo (R .wide) v cs p ≡ Found k e → hasInside k ≡ false
       two [] q = never (cc)
       two (w ∷ cs) q = not-true (hasInside k) (two-plain v w 0 k twos refl (found-kind (lookTwo twos v w) (p + R .wide w) k e q))
 
-      three : (cs : List ℕ) → findThree R v cs p ≡ Found k e → hasInside k ≡ false
+      three : (cs : List ℕ) → findThree (R .wide) v cs p ≡ Found k e → hasInside k ≡ false
       three [] q = never (cc)
       three (w ∷ []) q = never (cc)
       three (w ∷ (x ∷ cs)) q = not-true (hasInside k) (three-plain v w x k threes refl (found-kind (lookThree threes v w x) (p + R .wide w + R .wide x) k e q))
@@ -127,25 +127,25 @@ module _ (R : Rules) where
       let b = both-inv (eqb v c) (eqb w d) i in
       subst (λ (z : ℕ × ℕ). Shaped R (z .0 ∷ (z .1 ∷ ds)) a (f ds (a + R .wide (z .0) + R .wide (z .1)))) (λ j. (sym (eqb-true v c (b .0)) j, sym (eqb-true w d (b .1)) j)) (h ds)
 
-  line-shaped : (a : ℕ) (ds : List ℕ) → Shaped R (47 ∷ (47 ∷ ds)) a (lineOf R Comment a ds (a + R .wide 47 + R .wide 47))
+  line-shaped : (a : ℕ) (ds : List ℕ) → Shaped R (47 ∷ (47 ∷ ds)) a (lineOf (R .wide) Comment a ds (a + R .wide 47 + R .wide 47))
   unfolding lineOf run placeAfter
-  line-shaped a ds = let q = a + R .wide 47 + R .wide 47 in inr (opened R lineForm ds a (scan (runStep inLine) R tt q ds q .place) (line-inner R (R .skip) ds q q))
+  line-shaped a ds = let q = a + R .wide 47 + R .wide 47 in inr (opened R lineForm ds a (scan (runStep inLine) (R .wide) tt q ds q .place) (line-inner R (R .skip) ds q q))
 
   closed-full : (h : How) → closedBy h ≡ true → h ≡ full
   closed-full full e = refl
   closed-full ended e = never (cc)
   closed-full short e = never (cc)
 
-  comment-shaped : (a : ℕ) (ds : List ℕ) → Shaped R (47 ∷ (42 ∷ ds)) a (commentOf R a ds (a + R .wide 47 + R .wide 42))
-  unfolding commentOf placeAfter
+  comment-shaped : (a : ℕ) (ds : List ℕ) → Shaped R (47 ∷ (42 ∷ ds)) a (commentOf (R .wide) (R .skip) a ds (a + R .wide 47 + R .wide 42))
+  unfolding commentOf commentEnd placeAfter
   comment-shaped a ds =
       let q = a + R .wide 47 + R .wide 42 in
-      let o = scan commentStep R (skips (R .skip)) q ds q in
+      let o = scan commentStep (R .wide) (skips (R .skip)) q ds q in
       split (closedBy (o .how)) (λ e. rw e (inr (opened R (commentForm true) ds a (o .place) (comment-inner R (skips (R .skip)) q ds q (closed-full (o .how) e)))))
-      (λ e. rw (e, comment-whole R (skips (R .skip)) q ds q e) (inr (opened R (commentForm false) ds a (placeAfter R ds q) (inner-open R (R .skip) (commentForm false) ds q refl refl))))
+      (λ e. rw (e, comment-whole R (skips (R .skip)) q ds q e) (inr (opened R (commentForm false) ds a (placeAfter (R .wide) ds q) (inner-open R (R .skip) (commentForm false) ds q refl refl))))
 
   str-answer : (b : Bool) (a : ℕ) (cs : List ℕ) (st : Quoted) (l p : ℕ) (h : How)
-      → ((e : Bool) → h ≡ full → Inner R (R .skip) (stringForm b e) cs (placeAfter R (openMark (stringForm b false)) a) p)
+      → ((e : Bool) → h ≡ full → Inner R (R .skip) (stringForm b e) cs (placeAfter (R .wide) (openMark (stringForm b false)) a) p)
       → Shaped R (openMark (stringForm b false) ++ cs) a (strAnswer b a st l p h)
   str-answer b a cs (slashed e) l p h i = tt
   str-answer true a cs (text e) l p full i = inr (opened R (stringForm true e) cs a p (i e refl))
@@ -153,11 +153,11 @@ module _ (R : Rules) where
   str-answer b a cs (text e) l p ended i = tt
   str-answer b a cs (text e) l p short i = tt
 
-  str-shaped : (b : Bool) (a : ℕ) (cs : List ℕ) → let q = placeAfter R (openMark (stringForm b false)) a in Shaped R (openMark (stringForm b false) ++ cs) a (strOf R b a cs q)
+  str-shaped : (b : Bool) (a : ℕ) (cs : List ℕ) → let q = placeAfter (R .wide) (openMark (stringForm b false)) a in Shaped R (openMark (stringForm b false) ++ cs) a (strOf (R .wide) b a cs q)
   unfolding strOf
   str-shaped b a cs =
-      let q = placeAfter R (openMark (stringForm b false)) a in
-      let o = scan strStep R (text false) q cs q in
+      let q = placeAfter (R .wide) (openMark (stringForm b false)) a in
+      let o = scan strStep (R .wide) (text false) q cs q in
       str-answer b a cs (o .state) (o .last) (o .place) (o .how) (λ e h. str-inner R (R .skip) b e (text false) q cs q h)
 
   template-shaped : (a : ℕ) (cs : List ℕ) (r : Read) → BodyShape R (R .skip) a cs (a + R .wide 96) r → Shaped R (96 ∷ cs) a r
@@ -170,11 +170,11 @@ module _ (R : Rules) where
   first-shaped t d v a cs =
       let p = a + R .wide v in
       first-both R R t t v a a cs cs p p (λ r r′. Shaped R (v ∷ cs) a r) (λ c. refl) refl (inl refl)
-      (λ i. two-found 47 47 v a cs (lineOf R Comment a) i (line-shaped a)) (λ i. two-found 47 42 v a cs (commentOf R a) i (comment-shaped a))
-      (λ i. plain-shaped (v ∷ cs) a (behindOne R (byteOf R a) cs p) (behind-plain (byteOf R a) (λ ds q. let o = scan byteStep R fresh q ds q in byte-plain a (o .state) (o .last) (o .place) (o .how)) cs p))
-      (λ i. two-found 98 34 v a cs (strOf R true a) i (str-shaped true a)) (λ i. one-found 34 v a cs (strOf R false a) i (str-shaped false a cs))
-      (λ k e q. inl (op-plain v cs p k e q)) (λ q. q) (inl (word-plain (both (eqb v 95) (eqb (run R (R .continue) cs p) p)))) (inl refl)
-      (let o = scan charStep R (letters true false) p cs p in plain-shaped (v ∷ cs) a (charOf R a cs p) (char-plain a (o .state) (o .last) (o .place)))
+      (λ i. two-found 47 47 v a cs (lineOf (R .wide) Comment a) i (line-shaped a)) (λ i. two-found 47 42 v a cs (commentOf (R .wide) (R .skip) a) i (comment-shaped a))
+      (λ i. plain-shaped (v ∷ cs) a (behindOne R (byteOf (R .wide) a) cs p) (behind-plain (byteOf (R .wide) a) (λ ds q. let o = scan byteStep (R .wide) fresh q ds q in byte-plain a (o .state) (o .last) (o .place) (o .how)) cs p))
+      (λ i. two-found 98 34 v a cs (strOf (R .wide) true a) i (str-shaped true a)) (λ i. one-found 34 v a cs (strOf (R .wide) false a) i (str-shaped false a cs))
+      (λ k e q. inl (op-plain v cs p k e q)) (λ q. q) (inl (word-plain (both (eqb v 95) (eqb (run (R .wide) (R .continue) cs p) p)))) (inl refl)
+      (let o = scan charStep (R .wide) (letters true false) p cs p in plain-shaped (v ∷ cs) a (charOf (R .wide) a cs p) (char-plain a (o .state) (o .last) (o .place)))
       (λ i. one-found 96 v a cs (t a) i (d a cs)) tt
 
   deep-shaped : (d a : ℕ) (cs : List ℕ) → Shaped R (96 ∷ cs) a (deepOf R d a cs (a + R .wide 96))
@@ -195,5 +195,5 @@ module _ (R : Rules) where
   unfolding nextOf lineOf numberOf
   next-shaped n cs p =
       split (both (eqb p 0) (isShebang cs))
-      (λ e. rw e (plain-shaped cs p (shebangOf R cs p) (behind-plain (λ ds q. behindOne R (lineOf R Shebang p) ds q) (behind-plain (lineOf R Shebang p) (λ ds q. refl)) cs p)))
+      (λ e. rw e (plain-shaped cs p (shebangOf R cs p) (behind-plain (λ ds q. behindOne R (lineOf (R .wide) Shebang p) ds q) (behind-plain (lineOf (R .wide) Shebang p) (λ ds q. refl)) cs p)))
       (λ e. rw e (close-shaped n cs p (tokenOf R 64 cs p) (token-shaped 64 cs p)))

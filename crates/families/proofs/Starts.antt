@@ -59,12 +59,12 @@ module _ (R : Rules) where
   first-starts : (t : Deep) → ((a : ℕ) → StartsAt (t a) a) → (v a : ℕ) (cs : List ℕ) (p : ℕ) → Starts (firstOf R t v a cs p) a
   unfolding whiteOf lineOf commentOf byteOf strOf wordOf numberLitOf charOf
   first-starts t d v a cs p =
-      let str : (b : Bool) → StartsAt (strOf R b a) a = λ b ds q. let o = scan strStep R (text false) q ds q in str-starts b a (o .state) (o .last) (o .place) (o .how) in
-      first-cases R t v a cs p (λ r. Starts r a) refl (λ h. behind-starts (lineOf R Comment a) a (λ ds q. refl) cs p)
-      (λ h. behind-starts (commentOf R a) a (λ ds q. refl) cs p)
-      (λ h. behind-starts (byteOf R a) a (λ ds q. let o = scan byteStep R fresh q ds q in byte-starts a (o .state) (o .last) (o .place) (o .how)) cs p)
-      (λ h. behind-starts (strOf R true a) a (str true) cs p) (str false cs p) (λ k e h. refl) refl refl
-      (let o = scan charStep R (letters true false) p cs p in char-starts a (o .state) (o .last) (o .place)) (d a cs p) tt
+      let str : (b : Bool) → StartsAt (strOf (R .wide) b a) a = λ b ds q. let o = scan strStep (R .wide) (text false) q ds q in str-starts b a (o .state) (o .last) (o .place) (o .how) in
+      first-cases R t v a cs p (λ r. Starts r a) refl (λ h. behind-starts (lineOf (R .wide) Comment a) a (λ ds q. refl) cs p)
+      (λ h. behind-starts (commentOf (R .wide) (R .skip) a) a (λ ds q. refl) cs p)
+      (λ h. behind-starts (byteOf (R .wide) a) a (λ ds q. let o = scan byteStep (R .wide) fresh q ds q in byte-starts a (o .state) (o .last) (o .place) (o .how)) cs p)
+      (λ h. behind-starts (strOf (R .wide) true a) a (str true) cs p) (str false cs p) (λ k e h. refl) refl refl
+      (let o = scan charStep (R .wide) (letters true false) p cs p in char-starts a (o .state) (o .last) (o .place)) (d a cs p) tt
 
   on-starts : (a : ℕ) (r : Read) (go : ℕ → Read) → ((t : ℕ) → Starts (go t) a) → Starts (goOn a r go) a
   on-starts a (Got k) go g = g (k .span .end)
@@ -97,7 +97,7 @@ module _ (R : Rules) where
   unfolding nextOf lineOf
   next-starts n cs p =
       split (both (eqb p 0) (isShebang cs))
-      (λ e. rw e (behind-starts (λ ds q. behindOne R (lineOf R Shebang p) ds q) p (behind-starts (lineOf R Shebang p) p (λ ds q. refl)) cs p))
+      (λ e. rw e (behind-starts (λ ds q. behindOne R (lineOf (R .wide) Shebang p) ds q) p (behind-starts (lineOf (R .wide) Shebang p) p (λ ds q. refl)) cs p))
       (λ e. rw e (close-starts n p (tokenOf R 64 cs p) (token-starts 64 cs p)))
 
   -- the same, of an answer

@@ -39,4 +39,4 @@ abbrev pub counting : Rules → Rules
 counting R = withWide R (λ v. 1)
 
 unfoldable pub placeOf : Rules → List ℕ → ℕ → ℕ
-placeOf R cs i = placeAfter R (take i cs) 0
+placeOf R cs i = placeAfter (R .wide) (take i cs) 0

@@ -23,4 +23,4 @@ Near (v ∷ x) (w ∷ y) = (v ≡ w) × (v ≡ 46 → Head x y)
 
 -- a reader whose answer stays the same with other scalars behind the place that it reached, if they are near
 abbrev pub Local : Rules → (List ℕ → ℕ → Read) → Type 0
-Local R next = (f x y : List ℕ) (p : ℕ) → reachedOf (next (f ++ x) p) ≡ placeAfter R f p → Near x y → next (f ++ y) p ≡ next (f ++ x) p
+Local R next = (f x y : List ℕ) (p : ℕ) → reachedOf (next (f ++ x) p) ≡ placeAfter (R .wide) f p → Near x y → next (f ++ y) p ≡ next (f ++ x) p

@@ -3,15 +3,16 @@ use Prim.Native.Nat.{ℕ, _+_}
 use mathlib.Core.Path.{_≡_}
 use mathlib.Core.List.{List, [], _∷_, _++_}
 use Rattle.readers.specs.Rules.{Rules}
+use Rattle.readers.specs.Scan.{Wide}
 
 -- the place after the scalars cs, the first of which stands at p
-unfoldable pub placeAfter : Rules → List ℕ → ℕ → ℕ
-placeAfter R [] p = p
-placeAfter R (v ∷ cs) p = placeAfter R cs (p + R .wide v)
+unfoldable pub placeAfter : Wide → List ℕ → ℕ → ℕ
+placeAfter w [] p = p
+placeAfter w (v ∷ cs) p = placeAfter w cs (p + w v)
 
 -- scalars at p in two parts, the first of which ends at r
 pub record Cut (R : Rules) (cs : List ℕ) (p r : ℕ) : Type 0 where
   pub front : List ℕ
   pub back : List ℕ
   pub whole : cs ≡ front ++ back
-  pub ends : r ≡ placeAfter R front p
+  pub ends : r ≡ placeAfter (R .wide) front p

@@ -65,7 +65,7 @@ pub record Framed (R : Rules) (cs : List ℕ) (p : ℕ) (k : Token) : Type 0 whe
   pub back : List ℕ
   pub kind : k .kind ≡ formKind form
   pub whole : cs ≡ openMark form ++ (mid ++ (closeMark form ++ back))
-  pub ends : k .span .end ≡ placeAfter R (closeMark form) (placeAfter R mid (placeAfter R (openMark form) p))
+  pub ends : k .span .end ≡ placeAfter (R .wide) (closeMark form) (placeAfter (R .wide) mid (placeAfter (R .wide) (openMark form) p))
   pub fits : Fits (R .skip) form mid back
 
 -- an accepted token has no inside, or is framed
@@ -86,4 +86,4 @@ xs j = replicate j 120
 
 -- a token's scalars with as many x as its inside takes places, and y behind them
 abbrev pub painted : Rules → Form → List ℕ → List ℕ → List ℕ
-painted R form mid y = openMark form ++ (xs (placeAfter R mid 0) ++ (closeMark form ++ y))
+painted R form mid y = openMark form ++ (xs (placeAfter (R .wide) mid 0) ++ (closeMark form ++ y))

@@ -1,4 +1,4 @@
-S = {'s': '(@Start .args .s .now)', 'at': '(@Start .args .at)',
+S = {'s': '(@Start .args .s .now)', 'g': '(@Start .args .reading)', 'at': '(@Start .args .at)',
      'v': '(@first .given .0 .0)', 'n': '(@first .given .0 .1 .0)',
      'step': '(step-one $s$ 0 $v$ $n$ (sym (@scalar-at .ensures) ∙ @first .given .1))'}
 fill('is_shebang', {
@@ -13,10 +13,10 @@ fill('close_span', {
     'returns-3': '@refused .ensures ∙ close-empty $told$ (@if1 .left)'}, macros=C)
 fill('later', {'returns': ('laterAt', '@close-span .ensures ∙ ap (closeSpan (length $s$)) (@read-token .ensures)')}, macros=S)
 fill('next', {
-    'returns': '@got .ensures ∙ ap (gotOf Shebang 0) (@consume-line .ensures) ∙ next-shebang $s$ $at$ (@if1 .taken) (sym (@is-shebang .ensures) ∙ @if2 .taken)',
-    'returns-2': '@later .ensures ∙ later-token $s$ $at$ (⊎-elim (λ w. no-shebang $s$ $at$ (w .0 .taken) (sym (w .1 .ensures) ∙ w .2 .left)) (λ w. ap (λ (b : Bool). both b (isShebang (rest $s$ $at$))) (ne-eqb $at$ 0 (w .left))) (@if1 .came))'}, macros=S)
+    'returns': '@got .ensures ∙ ap (gotOf Shebang 0) (@consume-line .ensures) ∙ next-shebang $g$ $s$ $at$ (@if1 .taken) (sym (@is-shebang .ensures) ∙ @if2 .taken)',
+    'returns-2': '@later .ensures ∙ later-token $g$ $s$ $at$ (⊎-elim (λ w. no-shebang $s$ $at$ (w .0 .taken) (sym (w .1 .ensures) ∙ w .2 .left)) (λ w. ap (λ (b : Bool). both b (isShebang (rest $s$ $at$))) (ne-eqb $at$ 0 (w .left))) (@if1 .came))'}, macros=S)
 fill('read', {
-    'returns': '@next .ensures ∙ sym (read-case $s$ $at$ Sound (sym (@enum-told .given .1) ∙ @test-position .ensures))',
-    'returns-2': '@refused .ensures ∙ sym (read-case $s$ $at$ TooLong (sym (@enum-told2 .given .1) ∙ @test-position .ensures))',
-    'returns-3': '@refused2 .ensures ∙ sym (read-case $s$ $at$ (IllFormed (@bad .given .0 .0)) (sym (@bad .given .1) ∙ @test-position .ensures))',
-    'returns-4': '@refused3 .ensures ∙ sym (read-case $s$ $at$ (Misplaced (@bad2 .given .0 .0)) (sym (@bad2 .given .1) ∙ @test-position .ensures))'}, macros=S)
+    'returns': '@next .ensures ∙ sym (read-case $g$ $s$ $at$ Sound (sym (@enum-told .given .1) ∙ @test-position .ensures))',
+    'returns-2': '@refused .ensures ∙ sym (read-case $g$ $s$ $at$ TooLong (sym (@enum-told2 .given .1) ∙ @test-position .ensures))',
+    'returns-3': '@refused2 .ensures ∙ sym (read-case $g$ $s$ $at$ (IllFormed (@bad .given .0 .0)) (sym (@bad .given .1) ∙ @test-position .ensures))',
+    'returns-4': '@refused3 .ensures ∙ sym (read-case $g$ $s$ $at$ (Misplaced (@bad2 .given .0 .0)) (sym (@bad2 .given .1) ∙ @test-position .ensures))'}, macros=S)

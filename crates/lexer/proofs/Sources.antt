@@ -10,7 +10,8 @@ use Rattle.laws.proofs.Cases.{both-false, both-inv, never}
 use Rattle.laws.specs.Bools.{both}
 use Rattle.lexer.specs.Next.{closeSpan, isShebang, laterAt, nextAt, nextOf, readAt, shebangOf}
 use Rattle.readers.specs.Readers.{inLine, lineOf, run}
-use Rattle.readers.specs.Rules.{base}
+use Rattle.readers.specs.Rules.{rulesOf}
+use Rattle.readers.specs.declared.reading.Reading.{Reading}
 use Rattle.sound.specs.Source.{positionTest}
 use Rattle.sound.specs.declared.Tested.{Tested}
 use Rattle.sound.specs.declared.Tested.the-variants.{IllFormed, Misplaced, Sound, TooLong}
@@ -49,35 +50,35 @@ pub close-got : (n : ℕ) (r : Read) (k : Token) → r ≡ Got k → r ≡ close
 close-got n r k e = rw e
 
 -- `#!` takes two bytes
-pub next-shebang : (s : List ℕ) (at : ℕ) → at ≡ 0 → isShebang (rest s 0) ≡ true → gotOf Shebang 0 (run base inLine (rest s 2) 2) ≡ nextAt s at
+pub next-shebang : (g : Reading) (s : List ℕ) (at : ℕ) → at ≡ 0 → isShebang (rest s 0) ≡ true → gotOf Shebang 0 (run width inLine (rest s 2) 2) ≡ nextAt g s at
 unfolding nextAt nextOf lineOf width
-next-shebang s at z h = subst (λ (x : ℕ). gotOf Shebang 0 (run base inLine (rest s 2) 2) ≡ nextAt s x) (sym z) (rw h (behind-two (rest s 0) refl h))
+next-shebang g s at z h = subst (λ (x : ℕ). gotOf Shebang 0 (run width inLine (rest s 2) 2) ≡ nextAt g s x) (sym z) (rw h (behind-two (rest s 0) refl h))
   where
-    behind-two : (cs : List ℕ) → cs ≡ rest s 0 → isShebang cs ≡ true → gotOf Shebang 0 (run base inLine (rest s 2) 2) ≡ shebangOf base cs 0
-    behind-two [] e g = never (cc)
-    behind-two (v ∷ []) e g = never (let q = both-inv (eqb v 35) false g .1 in cc)
-    behind-two (v ∷ (w ∷ cs)) e g =
-        let i = both-inv (eqb v 35) (eqb w 33) g in
-        let ev = eqb-true v 35 (i .0) in
-        let ew = eqb-true w 33 (i .1) in
+    behind-two : (cs : List ℕ) → cs ≡ rest s 0 → isShebang cs ≡ true → gotOf Shebang 0 (run width inLine (rest s 2) 2) ≡ shebangOf (rulesOf g) cs 0
+    behind-two [] e i = never (cc)
+    behind-two (v ∷ []) e i = never (let q = both-inv (eqb v 35) false i .1 in cc)
+    behind-two (v ∷ (w ∷ cs)) e i =
+        let b = both-inv (eqb v 35) (eqb w 33) i in
+        let ev = eqb-true v 35 (b .0) in
+        let ew = eqb-true w 33 (b .1) in
         let e1 = rest-tail s 0 v (w ∷ cs) e in
         let e2 = rest-tail s (0 + width v) w cs e1 in
         let wv : width v ≡ 1 = width-1 v (omega arith) in
         let ww : width w ≡ 1 = width-1 w (omega arith) in
         let two : 0 + width v + width w ≡ 2 = omega arith in
-        sym (λ k. gotOf Shebang 0 (run base inLine (((e2 ∙ ap (rest s) two)) k) (two k)))
+        sym (λ k. gotOf Shebang 0 (run width inLine (((e2 ∙ ap (rest s) two)) k) (two k)))
 
-pub later-token : (s : List ℕ) (at : ℕ) → both (eqb at 0) (isShebang (rest s at)) ≡ false → laterAt s at ≡ nextAt s at
+pub later-token : (g : Reading) (s : List ℕ) (at : ℕ) → both (eqb at 0) (isShebang (rest s at)) ≡ false → laterAt g s at ≡ nextAt g s at
 unfolding laterAt nextAt nextOf
-later-token s at h = rw h
+later-token g s at h = rw h
 
-pub later-next : (s : List ℕ) (at : ℕ) → (at ≡ 0 → ⊥) → laterAt s at ≡ nextAt s at
-later-next s at h = later-token s at (ap (λ (b : Bool). both b (isShebang (rest s at))) (ne-eqb at 0 h))
+pub later-next : (g : Reading) (s : List ℕ) (at : ℕ) → (at ≡ 0 → ⊥) → laterAt g s at ≡ nextAt g s at
+later-next g s at h = later-token g s at (ap (λ (b : Bool). both b (isShebang (rest s at))) (ne-eqb at 0 h))
 
 pub no-shebang : (s : List ℕ) (at : ℕ) → at ≡ 0 → isShebang (rest s 0) ≡ false → both (eqb at 0) (isShebang (rest s at)) ≡ false
 no-shebang s at z h = subst (λ (x : ℕ). both (eqb x 0) (isShebang (rest s x)) ≡ false) (sym z) h
 
-pub read-case : (s : List ℕ) (at : ℕ) (q : Tested) → q ≡ positionTest s at
-    → readAt s at ≡ elim q [ Sound ↦ nextAt s at | TooLong ↦ refusedOf 1 0 0 0 | IllFormed p ↦ refusedOf 2 p p p | Misplaced p ↦ refusedOf 4 p p p ]
+pub read-case : (g : Reading) (s : List ℕ) (at : ℕ) (q : Tested) → q ≡ positionTest s at
+    → readAt g s at ≡ elim q [ Sound ↦ nextAt g s at | TooLong ↦ refusedOf 1 0 0 0 | IllFormed p ↦ refusedOf 2 p p p | Misplaced p ↦ refusedOf 4 p p p ]
 unfolding readAt
-read-case s at q e = rw (← e, readAt)
+read-case g s at q e = rw (← e, readAt)

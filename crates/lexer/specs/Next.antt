@@ -7,7 +7,8 @@ use lib.ListN.{length}
 use Rattle.choice.specs.Rule.{behindOne, nextIs}
 use Rattle.laws.specs.Bools.{both, pick}
 use Rattle.readers.specs.Readers.{lineOf}
-use Rattle.readers.specs.Rules.{Rules, base}
+use Rattle.readers.specs.Rules.{Rules, rulesOf}
+use Rattle.readers.specs.declared.reading.Reading.{Reading}
 use Rattle.sound.specs.Source.{positionTest}
 use Rattle.sound.specs.declared.Tested.the-variants.{IllFormed, Misplaced, Sound, TooLong}
 use Rattle.templates.specs.Body.{tokenOf}
@@ -23,7 +24,7 @@ isShebang (v ∷ cs) = both (eqb v 35) (nextIs 33 cs)
 
 -- `#!` and the line behind it
 abbrev pub shebangOf : Rules → List ℕ → ℕ → Read
-shebangOf R cs p = behindOne R (λ ds q. behindOne R (lineOf R Shebang p) ds q) cs p
+shebangOf R cs p = behindOne R (λ ds q. behindOne R (lineOf (R .wide) Shebang p) ds q) cs p
 
 -- 12's span ends where the source does, at n
 abbrev pub closeSpan : ℕ → Read → Read
@@ -38,17 +39,17 @@ laterOf R n cs p = closeSpan n (tokenOf R 64 cs p)
 unfoldable pub nextOf : Rules → ℕ → List ℕ → ℕ → Read
 nextOf R n cs p = pick (both (eqb p 0) (isShebang cs)) (shebangOf R cs p) (laterOf R n cs p)
 
-unfoldable pub nextAt : List ℕ → ℕ → Read
-nextAt s at = nextOf base (length s) (rest s at) at
+unfoldable pub nextAt : Reading → List ℕ → ℕ → Read
+nextAt g s at = nextOf (rulesOf g) (length s) (rest s at) at
 
-unfoldable pub laterAt : List ℕ → ℕ → Read
-laterAt s at = laterOf base (length s) (rest s at) at
+unfoldable pub laterAt : Reading → List ℕ → ℕ → Read
+laterAt g s at = laterOf (rulesOf g) (length s) (rest s at) at
 
 -- 1, 2 and 4 in this order, then reading
-unfoldable pub readAt : List ℕ → ℕ → Read
-readAt s at =
+unfoldable pub readAt : Reading → List ℕ → ℕ → Read
+readAt g s at =
     elim (positionTest s at) [
-      | Sound ↦ nextAt s at
+      | Sound ↦ nextAt g s at
       | TooLong ↦ refusedOf 1 0 0 0
       | IllFormed p ↦ refusedOf 2 p p p
       | Misplaced p ↦ refusedOf 4 p p p

@@ -1,4 +1,5 @@
 // The token of a source at a position: the shebang at 0, the source's end in refusal 12's span, and the tests before reading. Equal to specs/, on every slice and position.
+use readers::Reading;
 use sound::Tested;
 use templates::read_token;
 use text::Scalar;
@@ -51,29 +52,29 @@ fn close_span(end: usize, r: Read) -> Read
 }
 
 // For a place behind 0, where no shebang is looked for; for a caller that has tested the source once. Total on every slice and position.
-pub fn later(s: &[u8], at: usize) -> Read
-    ensures { λ r. ⌜ r ≡ laterAt (now (s .entry)) at ⌝ }
+pub fn later(s: &[u8], reading: Reading, at: usize) -> Read
+    ensures { λ r. ⌜ r ≡ laterAt reading (now (s .entry)) at ⌝ }
 {
-    close_span(s.len(), read_token(s, at, 64))
+    close_span(s.len(), read_token(s, reading, at, 64))
 }
 
 // For a caller that has tested the source once: total on every slice and position.
-pub fn next(s: &[u8], at: usize) -> Read
-    ensures { λ r. ⌜ r ≡ nextAt (now (s .entry)) at ⌝ }
+pub fn next(s: &[u8], reading: Reading, at: usize) -> Read
+    ensures { λ r. ⌜ r ≡ nextAt reading (now (s .entry)) at ⌝ }
 {
     if at == 0 {
         if is_shebang(s) {
             return token::got(Kind::Shebang, 0, readers::consume_line(s, 2));
         }
     }
-    later(s, at)
+    later(s, reading, at)
 }
 
-pub fn read(s: &[u8], at: usize) -> Read
-    ensures { λ r. ⌜ r ≡ readAt (now (s .entry)) at ⌝ }
+pub fn read(s: &[u8], reading: Reading, at: usize) -> Read
+    ensures { λ r. ⌜ r ≡ readAt reading (now (s .entry)) at ⌝ }
 {
     match sound::test_position(s, at) {
-        Tested::Sound => next(s, at),
+        Tested::Sound => next(s, reading, at),
         Tested::TooLong => token::refused(TOO_LONG, 0, 0, 0),
         Tested::IllFormed { at: bad } => token::refused(ILL_FORMED, bad, bad, bad),
         Tested::Misplaced { at: bad } => token::refused(NO_PLACE, bad, bad, bad),

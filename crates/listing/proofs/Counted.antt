@@ -11,7 +11,8 @@ use Rattle.listing.proofs.Stores.{by-test}
 use Rattle.listing.specs.Listing.{answerOf, listOf, noRoom, storedOf, wordsOf}
 use Rattle.listing.specs.declared.Listed.{Listed}
 use Rattle.listing.specs.declared.Listed.the-variants.{Stopped, Whole}
-use Rattle.readers.specs.Rules.{base}
+use Rattle.readers.specs.Rules.{rulesOf}
+use Rattle.readers.specs.declared.reading.Reading.{Reading}
 use Rattle.sound.specs.Source.{sourceTest}
 use Rattle.sound.specs.declared.Tested.{Tested}
 use Rattle.sound.specs.declared.Tested.the-variants.{IllFormed, Misplaced, Sound, TooLong}
@@ -45,25 +46,25 @@ whole-from (more k ts) room n m h =
     (λ e. let z : answerOf (more k ts) room n ≡ answerOf ts (room - 3) (n + 1) = rw (e, answerOf) in let i = whole-from ts (room - 3) (n + 1) m (sym z ∙ h) in omega arith)
 
 -- three words for each counted token, whatever the answer
-pub three-words : (s : List ℕ) (room : ℕ) → length (storedOf s room) ≡ 3 * countIn (listOf s room)
-three-words s room = by-source (sourceTest s) refl
+pub three-words : (g : Reading) (s : List ℕ) (room : ℕ) → length (storedOf g s room) ≡ 3 * countIn (listOf g s room)
+three-words g s room = by-source (sourceTest s) refl
   where
-    by-source : (t : Tested) → t ≡ sourceTest s → length (storedOf s room) ≡ 3 * countIn (listOf s room)
-    by-source Sound e = let b = by-test s room Sound e in rw (b .0, b .1) (let z = three-from (tokensAt base s 0) room 0 in omega arith)
-    by-source TooLong e = let b = by-test s room TooLong e in rw (b .0, b .1) refl
-    by-source (IllFormed p) e = let b = by-test s room (IllFormed p) e in rw (b .0, b .1) refl
-    by-source (Misplaced p) e = let b = by-test s room (Misplaced p) e in rw (b .0, b .1) refl
+    by-source : (t : Tested) → t ≡ sourceTest s → length (storedOf g s room) ≡ 3 * countIn (listOf g s room)
+    by-source Sound e = let b = by-test g s room Sound e in rw (b .0, b .1) (let z = three-from (tokensAt (rulesOf g) s 0) room 0 in omega arith)
+    by-source TooLong e = let b = by-test g s room TooLong e in rw (b .0, b .1) refl
+    by-source (IllFormed p) e = let b = by-test g s room (IllFormed p) e in rw (b .0, b .1) refl
+    by-source (Misplaced p) e = let b = by-test g s room (Misplaced p) e in rw (b .0, b .1) refl
 
 -- with room for all tokens of a sound source, all are counted, those before a refusal too
-pub counted : (s : List ℕ) (room : ℕ) → sourceTest s ≡ Sound → 3 * countOf (tokensAt base s 0) ≤ room → countIn (listOf s room) ≡ countOf (tokensAt base s 0)
-counted s room e h = rw (by-test s room Sound (sym e) .0) (let z = counted-from (tokensAt base s 0) room 0 h in omega arith)
+pub counted : (g : Reading) (s : List ℕ) (room : ℕ) → sourceTest s ≡ Sound → 3 * countOf (tokensAt (rulesOf g) s 0) ≤ room → countIn (listOf g s room) ≡ countOf (tokensAt (rulesOf g) s 0)
+counted g s room e h = rw (by-test g s room Sound (sym e) .0) (let z = counted-from (tokensAt (rulesOf g) s 0) room 0 h in omega arith)
 
 -- the count of an accepted source is that of its tokens
-pub whole-counted : (s : List ℕ) (room m : ℕ) → listOf s room ≡ Whole m → m ≡ countOf (tokensAt base s 0)
-whole-counted s room m h = by-source (sourceTest s) refl
+pub whole-counted : (g : Reading) (s : List ℕ) (room m : ℕ) → listOf g s room ≡ Whole m → m ≡ countOf (tokensAt (rulesOf g) s 0)
+whole-counted g s room m h = by-source (sourceTest s) refl
   where
-    by-source : (t : Tested) → t ≡ sourceTest s → m ≡ countOf (tokensAt base s 0)
-    by-source Sound e = let z = whole-from (tokensAt base s 0) room 0 m (sym (by-test s room Sound e .0) ∙ h) in omega arith
-    by-source TooLong e = never (let b = by-test s room TooLong e .0 in cc)
-    by-source (IllFormed p) e = never (let b = by-test s room (IllFormed p) e .0 in cc)
-    by-source (Misplaced p) e = never (let b = by-test s room (Misplaced p) e .0 in cc)
+    by-source : (t : Tested) → t ≡ sourceTest s → m ≡ countOf (tokensAt (rulesOf g) s 0)
+    by-source Sound e = let z = whole-from (tokensAt (rulesOf g) s 0) room 0 m (sym (by-test g s room Sound e .0) ∙ h) in omega arith
+    by-source TooLong e = never (let b = by-test g s room TooLong e .0 in cc)
+    by-source (IllFormed p) e = never (let b = by-test g s room (IllFormed p) e .0 in cc)
+    by-source (Misplaced p) e = never (let b = by-test g s room (Misplaced p) e .0 in cc)

@@ -15,7 +15,8 @@ use Rattle.numbers.specs.Kinds.{numberOf}
 use Rattle.quick_tokens.proofs.Sure.{Told, quick-told}
 use Rattle.quick_tokens.specs.Tokens.{quickTokenAt}
 use Rattle.quick_tokens.specs.declared.Quick.{Quick}
-use Rattle.readers.specs.Rules.{base}
+use Rattle.readers.specs.Rules.{rulesOf}
+use Rattle.readers.specs.declared.reading.Reading.{Reading}
 use Rattle.sound.specs.Source.{sourceTest}
 use Rattle.sound.specs.declared.Tested.{Tested}
 use Rattle.sound.specs.declared.Tested.the-variants.{IllFormed, Misplaced, Sound, TooLong}
@@ -37,66 +38,66 @@ store-three out w n a b c =
 length-three : (out : List ℕ) (n a b c : ℕ) → length (set (set (set out n a) (n + 1) b) (n + 2) c) ≡ length out
 length-three out n a b c = simp length-set
 
-pub record Head (s out₀ out : List ℕ) (at n count : ℕ) : Type 0 where
-  pub answers : answerOf (tokensAt base s at) (length out - n) count ≡ answerOf (tokensAt base s 0) (length out₀) 0
-  pub stores : sets out n (wordsOf (tokensAt base s at) (length out - n)) ≡ sets out₀ 0 (wordsOf (tokensAt base s 0) (length out₀))
+pub record Head (g : Reading) (s out₀ out : List ℕ) (at n count : ℕ) : Type 0 where
+  pub answers : answerOf (tokensAt (rulesOf g) s at) (length out - n) count ≡ answerOf (tokensAt (rulesOf g) s 0) (length out₀) 0
+  pub stores : sets out n (wordsOf (tokensAt (rulesOf g) s at) (length out - n)) ≡ sets out₀ 0 (wordsOf (tokensAt (rulesOf g) s 0) (length out₀))
   pub in-source : at ≤ length s
   pub in-store : n ≤ length out
   pub same : length out ≡ length out₀
   pub few : count ≤ at
 
-pub head-first : (s out : List ℕ) → Head s out out 0 0 0
-head-first s out =
+pub head-first : (g : Reading) (s out : List ℕ) → Head g s out out 0 0 0
+head-first g s out =
     let z : length out - 0 ≡ length out = omega arith in
     record {
-      answers = ap (λ (k : ℕ). answerOf (tokensAt base s 0) k 0) z;
-      stores = ap (λ (k : ℕ). sets out 0 (wordsOf (tokensAt base s 0) k)) z;
+      answers = ap (λ (k : ℕ). answerOf (tokensAt (rulesOf g) s 0) k 0) z;
+      stores = ap (λ (k : ℕ). sets out 0 (wordsOf (tokensAt (rulesOf g) s 0) k)) z;
       in-source = omega arith;
       in-store = omega arith;
       same = refl;
       few = omega arith;
     }
 
-module _ (s out₀ out : List ℕ) (at n count : ℕ) (h : Head s out₀ out at n count) where
+module _ (g : Reading) (s out₀ out : List ℕ) (at n count : ℕ) (h : Head g s out₀ out at n count) where
   abbrev Done : Listed → Type 0
-  Done x = (x ≡ answerOf (tokensAt base s 0) (length out₀) 0) × (out ≡ sets out₀ 0 (wordsOf (tokensAt base s 0) (length out₀)))
+  Done x = (x ≡ answerOf (tokensAt (rulesOf g) s 0) (length out₀) 0) × (out ≡ sets out₀ 0 (wordsOf (tokensAt (rulesOf g) s 0) (length out₀)))
 
   -- nothing more is written
-  finish : (ts : Tokens) → tokensAt base s at ≡ ts → (x : Listed) → answerOf ts (length out - n) count ≡ x → wordsOf ts (length out - n) ≡ [] → Done x
+  finish : (ts : Tokens) → tokensAt (rulesOf g) s at ≡ ts → (x : Listed) → answerOf ts (length out - n) count ≡ x → wordsOf ts (length out - n) ≡ [] → Done x
   finish ts e x ea ew = (
     sym ea ∙ ap (λ (t : Tokens). answerOf t (length out - n) count) (sym e) ∙ h .answers,
     sym (ap (sets out n) ew) ∙ ap (λ (t : Tokens). sets out n (wordsOf t (length out - n))) (sym e) ∙ h .stores,
   )
 
-  module _ (r : Read) (er : r ≡ nextAt s at) where
+  module _ (r : Read) (er : r ≡ nextAt g s at) where
     pub list-halt : (k : Refusal) → r ≡ Refused k → Done (Stopped count k)
     unfolding answerOf wordsOf
-    list-halt k e = finish (halt k) (tokens-halt s at r er k e) (Stopped count k) refl refl
+    list-halt k e = finish (halt k) (tokens-halt g s at r er k e) (Stopped count k) refl refl
 
     module _ (k : Token) (e : r ≡ Got k) where
       pub list-fin : k .span .end ≡ at → Done (Whole count)
       unfolding answerOf wordsOf
-      list-fin z = finish fin (tokens-fin s at r er k e z) (Whole count) refl refl
+      list-fin z = finish fin (tokens-fin g s at r er k e z) (Whole count) refl refl
 
       module _ (z : k .span .end ≡ at → ⊥) where
         pub list-short : length out - n < 3 → Done (Stopped count (noRoom k))
         unfolding answerOf wordsOf
         list-short l =
-            finish (more k (tokensAt base s (k .span .end))) (tokens-more s at r er k e z) (Stopped count (noRoom k)) (rw (lt-ltb (length out - n) 3 l, answerOf)) (rw (lt-ltb (length out - n) 3 l, wordsOf))
+            finish (more k (tokensAt (rulesOf g) s (k .span .end))) (tokens-more g s at r er k e z) (Stopped count (noRoom k)) (rw (lt-ltb (length out - n) 3 l, answerOf)) (rw (lt-ltb (length out - n) 3 l, wordsOf))
 
-        turn : 3 ≤ length out - n → Head s out₀ (set (set (set out n (numberOf (k .kind))) (n + 1) at) (n + 2) (k .span .end)) (k .span .end) (n + 3) (count + 1)
+        turn : 3 ≤ length out - n → Head g s out₀ (set (set (set out n (numberOf (k .kind))) (n + 1) at) (n + 2) (k .span .end)) (k .span .end) (n + 3) (count + 1)
         unfolding answerOf wordsOf
         turn l =
             let end = k .span .end in
-            let ts = tokensAt base s end in
+            let ts = tokensAt (rulesOf g) s end in
             let next = set (set (set out n (numberOf (k .kind))) (n + 1) at) (n + 2) end in
             let len = length-three out n (numberOf (k .kind)) at end in
             let left : length next - (n + 3) ≡ length out - n - 3 = omega arith in
-            let whole = tokens-more s at r er k e z in
-            let start = tokens-start s at r er k e in
+            let whole = tokens-more g s at r er k e z in
+            let start = tokens-start g s at r er k e in
             let i = h .in-store in
             let f = h .few in
-            let past = tokens-past s at r er k e z in
+            let past = tokens-past g s at r er k e z in
             record {
               answers =
                   ap (λ (m : ℕ). answerOf ts m (count + 1)) left ∙ sym (ap (λ (t : Tokens). answerOf t (length out - n) count) whole ∙ rw (le-ltb (length out - n) 3 l, answerOf)) ∙ h .answers;
@@ -104,28 +105,28 @@ module _ (s out₀ out : List ℕ) (at n count : ℕ) (h : Head s out₀ out at 
                   ap (λ (m : ℕ). sets next (n + 3) (wordsOf ts m)) left ∙ store-three out (wordsOf ts (length out - n - 3)) n (numberOf (k .kind)) at end
                   ∙ ap (λ (x : ℕ). sets out n (numberOf (k .kind) ∷ (x ∷ (end ∷ wordsOf ts (length out - n - 3))))) (sym start)
                   ∙ sym (ap (λ (t : Tokens). sets out n (wordsOf t (length out - n))) whole ∙ rw (le-ltb (length out - n) 3 l, wordsOf)) ∙ h .stores;
-              in-source = tokens-room s at r er k e z;
+              in-source = tokens-room g s at r er k e z;
               in-store = omega arith;
               same = len ∙ h .same;
               few = omega arith;
             }
 
         pub list-more : (x : ℕ) → x ≡ numberOf (k .kind) → (next : List ℕ) → next ≡ set (set (set out n x) (n + 1) at) (n + 2) (k .span .end) → 3 ≤ length out - n
-            → Head s out₀ next (k .span .end) (n + 3) (count + 1)
+            → Head g s out₀ next (k .span .end) (n + 3) (count + 1)
         list-more x ex next en l =
-            subst (λ (o : List ℕ). Head s out₀ o (k .span .end) (n + 3) (count + 1))
+            subst (λ (o : List ℕ). Head g s out₀ o (k .span .end) (n + 3) (count + 1))
             (sym (en ∙ ap (λ (y : ℕ). set (set (set out n y) (n + 1) at) (n + 2) (k .span .end)) ex)) (turn l)
 
         pub list-past : at < k .span .end
-        list-past = tokens-past s at r er k e z
+        list-past = tokens-past g s at r er k e z
 
         pub list-room : k .span .end ≤ length s
-        list-room = tokens-room s at r er k e z
+        list-room = tokens-room g s at r er k e z
 
   -- a token told by its bytes is the token that is read
   module _ (q : Quick) (eq : q ≡ quickTokenAt s at) (nz : q .number ≡ 0 → ⊥) where
-    told : Told s at q
-    told = quick-told s at q eq nz
+    told : Told g s at q
+    told = quick-told g s at q eq nz
 
     abbrev token : Token
     token = record { kind = told .kind; span = spanOf at (q .end) }
@@ -140,15 +141,15 @@ module _ (s out₀ out : List ℕ) (at n count : ℕ) (h : Head s out₀ out at 
     quick-short l = list-short (Got token) (told .reads) token refl moves-on l
 
     pub quick-more : (next : List ℕ) → next ≡ set (set (set out n (q .number)) (n + 1) at) (n + 2) (q .end) → 3 ≤ length out - n
-        → Head s out₀ next (q .end) (n + 3) (count + 1)
+        → Head g s out₀ next (q .end) (n + 3) (count + 1)
     quick-more next en l = list-more (Got token) (told .reads) token refl moves-on (q .number) (sym (told .number)) next en l
 
     pub quick-room : q .end ≤ length s
     quick-room = list-room (Got token) (told .reads) token refl moves-on
 
 -- the tests before, and the whole
-pub by-test : (s : List ℕ) (room : ℕ) (t : Tested) → t ≡ sourceTest s
-    → (listOf s room ≡ elim t [ Sound ↦ answerOf (tokensAt base s 0) room 0 | TooLong ↦ Stopped 0 (pointRefusal 1 0) | IllFormed p ↦ Stopped 0 (pointRefusal 2 p) | Misplaced p ↦ Stopped 0 (pointRefusal 4 p) ])
-    × (storedOf s room ≡ elim t [ Sound ↦ wordsOf (tokensAt base s 0) room | TooLong ↦ [] | IllFormed p ↦ [] | Misplaced p ↦ [] ])
+pub by-test : (g : Reading) (s : List ℕ) (room : ℕ) (t : Tested) → t ≡ sourceTest s
+    → (listOf g s room ≡ elim t [ Sound ↦ answerOf (tokensAt (rulesOf g) s 0) room 0 | TooLong ↦ Stopped 0 (pointRefusal 1 0) | IllFormed p ↦ Stopped 0 (pointRefusal 2 p) | Misplaced p ↦ Stopped 0 (pointRefusal 4 p) ])
+    × (storedOf g s room ≡ elim t [ Sound ↦ wordsOf (tokensAt (rulesOf g) s 0) room | TooLong ↦ [] | IllFormed p ↦ [] | Misplaced p ↦ [] ])
 unfolding listOf storedOf
-by-test s room t e = (rw (← e, listOf), rw (← e, storedOf))
+by-test g s room t e = (rw (← e, listOf), rw (← e, storedOf))

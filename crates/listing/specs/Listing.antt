@@ -6,7 +6,8 @@ use lib.Dec.{ltb}
 use Rattle.listing.specs.declared.Listed.{Listed}
 use Rattle.listing.specs.declared.Listed.the-variants.{Stopped, Whole}
 use Rattle.numbers.specs.Kinds.{numberOf}
-use Rattle.readers.specs.Rules.{base}
+use Rattle.readers.specs.Rules.{rulesOf}
+use Rattle.readers.specs.declared.reading.Reading.{Reading}
 use Rattle.sound.specs.Source.{sourceTest}
 use Rattle.sound.specs.declared.Tested.the-variants.{IllFormed, Misplaced, Sound, TooLong}
 use Rattle.token.specs.Reads.{pointRefusal}
@@ -35,19 +36,19 @@ answerOf (halt r) room n = Stopped n r
 answerOf (more k ts) room n = elim (ltb room 3) [ true ↦ Stopped n (noRoom k) | false ↦ answerOf ts (room - 3) (n + 1) ]
 
 -- 1 and 2 come first, and store nothing
-unfoldable pub listOf : List ℕ → ℕ → Listed
-listOf s room =
+unfoldable pub listOf : Reading → List ℕ → ℕ → Listed
+listOf g s room =
     elim (sourceTest s) [
-      | Sound ↦ answerOf (tokensAt base s 0) room 0
+      | Sound ↦ answerOf (tokensAt (rulesOf g) s 0) room 0
       | TooLong ↦ Stopped 0 (pointRefusal 1 0)
       | IllFormed p ↦ Stopped 0 (pointRefusal 2 p)
       | Misplaced p ↦ Stopped 0 (pointRefusal 4 p)
     ]
 
-unfoldable pub storedOf : List ℕ → ℕ → List ℕ
-storedOf s room =
+unfoldable pub storedOf : Reading → List ℕ → ℕ → List ℕ
+storedOf g s room =
     elim (sourceTest s) [
-      | Sound ↦ wordsOf (tokensAt base s 0) room
+      | Sound ↦ wordsOf (tokensAt (rulesOf g) s 0) room
       | TooLong ↦ []
       | IllFormed p ↦ []
       | Misplaced p ↦ []

@@ -1,4 +1,5 @@
 // The tokens of a source, three words each (kind, start, end), in a lent store; later words keep their content.
+use readers::Reading;
 use sound::Tested;
 use token::Read;
 use token::Refusal;
@@ -14,7 +15,7 @@ ghost use lib.ListN.{length, set};
 ghost use Rattle.lexer.specs.Next.{nextAt};
 ghost use Rattle.listing.specs.Listing.{answerOf, listOf, storedOf, wordsOf};
 ghost use Rattle.listing.specs.declared.Listed.the-variants.{Stopped};
-ghost use Rattle.readers.specs.Rules.{base};
+ghost use Rattle.readers.specs.Rules.{rulesOf};
 ghost use Rattle.token.specs.Reads.{pointRefusal};
 ghost use Rattle.tokens.specs.Tokens.{tokensAt};
 
@@ -53,13 +54,13 @@ fn no_room(count: usize, span: Span) -> Listed
 }
 
 // A shebang stands at 0 alone: everywhere else it is not looked for.
-fn next_token(s: &[u8], at: usize) -> Read
-    ensures { λ r. ⌜ r ≡ nextAt (now (s .entry)) at ⌝ }
+fn next_token(s: &[u8], reading: Reading, at: usize) -> Read
+    ensures { λ r. ⌜ r ≡ nextAt reading (now (s .entry)) at ⌝ }
 {
     if at == 0 {
-        return lexer::next(s, at);
+        return lexer::next(s, reading, at);
     }
-    lexer::later(s, at)
+    lexer::later(s, reading, at)
 }
 
 // The three words of a token, at place n of the store.
@@ -72,10 +73,10 @@ fn put(store: &mut [u32], n: usize, number: u32, at: usize, end: usize)
     store[n + 2] = end as u32;
 }
 
-fn list_tokens(s: &[u8], store: &mut [u32]) -> Listed
+fn list_tokens(s: &[u8], reading: Reading, store: &mut [u32]) -> Listed
     requires { ⌜ length (now s) ≤ 65536 ⌝ }
-    ensures { λ r. ⌜ (r ≡ answerOf (tokensAt base (now (s .entry)) 0) (length (now (store .entry))) 0)
-        × (now (store .exit) ≡ sets (now (store .entry)) 0 (wordsOf (tokensAt base (now (s .entry)) 0) (length (now (store .entry))))) ⌝ }
+    ensures { λ r. ⌜ (r ≡ answerOf (tokensAt (rulesOf reading) (now (s .entry)) 0) (length (now (store .entry))) 0)
+        × (now (store .exit) ≡ sets (now (store .entry)) 0 (wordsOf (tokensAt (rulesOf reading) (now (s .entry)) 0) (length (now (store .entry))))) ⌝ }
 {
     let mut at: usize = 0;
     let mut n: usize = 0;
@@ -92,7 +93,7 @@ fn list_tokens(s: &[u8], store: &mut [u32]) -> Listed
             count = count + 1;
             at = end;
         } else {
-            match next_token(s, at) {
+            match next_token(s, reading, at) {
                 Read::Refused { refusal } => {
                     return Listed::Stopped { count, refusal };
                 }
@@ -116,12 +117,12 @@ fn list_tokens(s: &[u8], store: &mut [u32]) -> Listed
     }
 }
 
-pub fn list(s: &[u8], store: &mut [u32]) -> Listed
-    ensures { λ r. ⌜ (r ≡ listOf (now (s .entry)) (length (now (store .entry))))
-        × (now (store .exit) ≡ sets (now (store .entry)) 0 (storedOf (now (s .entry)) (length (now (store .entry))))) ⌝ }
+pub fn list(s: &[u8], reading: Reading, store: &mut [u32]) -> Listed
+    ensures { λ r. ⌜ (r ≡ listOf reading (now (s .entry)) (length (now (store .entry))))
+        × (now (store .exit) ≡ sets (now (store .entry)) 0 (storedOf reading (now (s .entry)) (length (now (store .entry))))) ⌝ }
 {
     match sound::test_source(s) {
-        Tested::Sound => list_tokens(s, store),
+        Tested::Sound => list_tokens(s, reading, store),
         Tested::TooLong => refused_at(TOO_LONG, 0),
         Tested::IllFormed { at } => refused_at(ILL_FORMED, at),
         Tested::Misplaced { at } => refused_at(NO_PLACE, at),

@@ -9,7 +9,6 @@ use Rattle.laws.proofs.Cases.{both-false, never, split-eq}
 use Rattle.laws.specs.Bools.{both}
 use Rattle.operators.specs.Operators.{findOne, findThree, findTwo, lookThree, lookTwo, operatorOf, threes, twos}
 use Rattle.operators.specs.declared.Operator.the-variants.{Found, Nothing}
-use Rattle.readers.specs.Rules.{base}
 use Rattle.text.proofs.Decode.{Step}
 use Rattle.text.specs.Utf8.{rest, width}
 use Rattle.token.specs.declared.kind.Kind.{Kind}
@@ -35,29 +34,29 @@ no-three v w x h =
     known c d i j = sym (λ k. lookTwo twos (i k) (j k)) ∙ h
 
 module _ (s : List ℕ) (v at : ℕ) where
-  pub op-end : rest s at ≡ [] → findOne v at ≡ operatorOf base v (rest s at) at
+  pub op-end : rest s at ≡ [] → findOne v at ≡ operatorOf width v (rest s at) at
   unfolding operatorOf findTwo findThree
   op-end e = rw e
 
   module _ (w n : ℕ) (t : Step s at w n) where
-    three-none : lookTwo twos v w ≡ Unknown → (cs : List ℕ) (p : ℕ) → findThree base v (w ∷ cs) p ≡ Nothing
+    three-none : lookTwo twos v w ≡ Unknown → (cs : List ℕ) (p : ℕ) → findThree width v (w ∷ cs) p ≡ Nothing
     unfolding findThree
     three-none h [] p = refl
     three-none h (x ∷ cs) p = rw (no-three v w x h)
 
-    pub op-one : lookTwo twos v w ≡ Unknown → findOne v at ≡ operatorOf base v (rest s at) at
+    pub op-one : lookTwo twos v w ≡ Unknown → findOne v at ≡ operatorOf width v (rest s at) at
     unfolding operatorOf findTwo
     op-one h = rw (t .here, three-none h (rest s n) at, h)
 
-    pub op-two-end : (k : Kind) → lookTwo twos v w ≡ Is k → rest s n ≡ [] → Found k n ≡ operatorOf base v (rest s at) at
+    pub op-two-end : (k : Kind) → lookTwo twos v w ≡ Is k → rest s n ≡ [] → Found k n ≡ operatorOf width v (rest s at) at
     unfolding operatorOf findTwo findThree
     op-two-end k h e = rw (t .here, e, h) (ap (Found k) (t .next))
 
     module _ (x m : ℕ) (u : Step s n x m) where
-      pub op-two : (k : Kind) → lookTwo twos v w ≡ Is k → lookThree threes v w x ≡ Unknown → Found k n ≡ operatorOf base v (rest s at) at
+      pub op-two : (k : Kind) → lookTwo twos v w ≡ Is k → lookThree threes v w x ≡ Unknown → Found k n ≡ operatorOf width v (rest s at) at
       unfolding operatorOf findTwo findThree
       op-two k h i = rw (t .here, u .here, i, h) (ap (Found k) (t .next))
 
-      pub op-three : (k : Kind) → lookThree threes v w x ≡ Is k → Found k m ≡ operatorOf base v (rest s at) at
+      pub op-three : (k : Kind) → lookThree threes v w x ≡ Is k → Found k m ≡ operatorOf width v (rest s at) at
       unfolding operatorOf findThree
       op-three k i = rw (t .here, u .here, i) (ap (Found k) (u .next ∙ ap (λ (q : ℕ). q + width x) (t .next)))

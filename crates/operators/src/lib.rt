@@ -8,8 +8,7 @@ ghost use lib.Dec.{eqb};
 ghost use Rattle.laws.specs.Bools.{pick};
 ghost use Rattle.operators.specs.Operators.{findOne, lookOne, lookThree, lookTwo, ones, operatorOf, threes, twos};
 ghost use Rattle.operators.specs.declared.Operator.the-variants.{Found};
-ghost use Rattle.readers.specs.Rules.{base};
-ghost use Rattle.text.specs.Utf8.{first, rest};
+ghost use Rattle.text.specs.Utf8.{first, rest, width};
 ghost use Rattle.token.specs.declared.kind.Known.the-variants.{Is, Unknown};
 
 // An operator's kind and the place after it.
@@ -141,7 +140,7 @@ fn single_at(first: u32, at: usize) -> Operator
 
 // The operator that begins with the scalar `first`, which ends at a place.
 pub fn next_operator(s: &[u8], first: u32, at: usize) -> Operator
-    ensures { λ r. ⌜ r ≡ operatorOf base first (rest (now (s .entry)) at) at ⌝ }
+    ensures { λ r. ⌜ r ≡ operatorOf width first (rest (now (s .entry)) at) at ⌝ }
 {
     let Scalar::One {
         value: second,

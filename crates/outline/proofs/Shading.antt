@@ -18,7 +18,8 @@ use Rattle.numbers.specs.Kinds.{hasInside}
 use Rattle.outline.specs.Outline.{answerOf, between, insideAt, insideToken, outlineOf, outlined, paint, writtenOf}
 use Rattle.outline.specs.declared.Outlined.{Outlined}
 use Rattle.outline.specs.declared.Outlined.the-variants.{Stopped, Whole}
-use Rattle.readers.specs.Rules.{base}
+use Rattle.readers.specs.Rules.{rulesOf}
+use Rattle.readers.specs.declared.reading.Reading.{Reading}
 use Rattle.sound.specs.Source.{sourceTest}
 use Rattle.sound.specs.declared.Tested.{Tested}
 use Rattle.sound.specs.declared.Tested.the-variants.{IllFormed, Misplaced, Sound, TooLong}
@@ -78,62 +79,62 @@ piece m m′ m″ s b a e h k f g =
     ∙ ap (sets (sets b a (paint m′ (slice a e s) a)) e) (paint-ext m m″ (drop e s) e (λ i u v. g i u)))
 
 -- what is left to paint from a place on, in the buffer b
-abbrev pub shadeFrom : List ℕ → ℕ → List ℕ → List ℕ
-shadeFrom s at b = sets b at (paint (insideAt (tokensAt base s at)) (drop at s) at)
+abbrev pub shadeFrom : Reading → List ℕ → ℕ → List ℕ → List ℕ
+shadeFrom g s at b = sets b at (paint (insideAt (tokensAt (rulesOf g) s at)) (drop at s) at)
 
-pub record Shaded (s b₀ b : List ℕ) (at : ℕ) : Type 0 where
-  pub buffer : shadeFrom s at b ≡ shadeFrom s 0 b₀
-  pub answers : answerOf (tokensAt base s at) ≡ answerOf (tokensAt base s 0)
+pub record Shaded (g : Reading) (s b₀ b : List ℕ) (at : ℕ) : Type 0 where
+  pub buffer : shadeFrom g s at b ≡ shadeFrom g s 0 b₀
+  pub answers : answerOf (tokensAt (rulesOf g) s at) ≡ answerOf (tokensAt (rulesOf g) s 0)
   pub in-source : at ≤ length s
   pub same : length b ≡ length b₀
   pub fits : length s ≤ length b₀
 
-pub shaded-first : (s b : List ℕ) → length s ≤ length b → Shaded s b b 0
-shaded-first s b h = record { buffer = refl; answers = refl; in-source = omega arith; same = refl; fits = h }
+pub shaded-first : (g : Reading) (s b : List ℕ) → length s ≤ length b → Shaded g s b b 0
+shaded-first g s b h = record { buffer = refl; answers = refl; in-source = omega arith; same = refl; fits = h }
 
-module _ (s b₀ b : List ℕ) (at : ℕ) (h : Shaded s b₀ b at) where
+module _ (g : Reading) (s b₀ b : List ℕ) (at : ℕ) (h : Shaded g s b₀ b at) where
   abbrev Done : Outlined → List ℕ → Type 0
-  Done x b′ = (x ≡ answerOf (tokensAt base s 0)) × (b′ ≡ sets b₀ 0 (outlined base s))
+  Done x b′ = (x ≡ answerOf (tokensAt (rulesOf g) s 0)) × (b′ ≡ sets b₀ 0 (outlined (rulesOf g) s))
 
   -- what is left is copied
-  finish : (x : Outlined) (b′ : List ℕ) → b′ ≡ sets b at (paint (between false 0 0 (length s)) (slice at (length s) s) at) → answerOf (tokensAt base s at) ≡ x
-      → ((i : ℕ) → insideAt (tokensAt base s at) i ≡ false) → Done x b′
+  finish : (x : Outlined) (b′ : List ℕ) → b′ ≡ sets b at (paint (between false 0 0 (length s)) (slice at (length s) s) at) → answerOf (tokensAt (rulesOf g) s at) ≡ x
+      → ((i : ℕ) → insideAt (tokensAt (rulesOf g) s at) i ≡ false) → Done x b′
   unfolding outlined
   finish x b′ e a n = (
     sym a ∙ h .answers,
     e ∙ ap (λ (l : List ℕ). sets b at (paint (between false 0 0 (length s)) l at)) (ap (drop at) (take-length s))
-        ∙ ap (sets b at) (paint-ext (between false 0 0 (length s)) (insideAt (tokensAt base s at)) (drop at s) at (λ i l u. sym (n i))) ∙ h .buffer,
+        ∙ ap (sets b at) (paint-ext (between false 0 0 (length s)) (insideAt (tokensAt (rulesOf g) s at)) (drop at s) at (λ i l u. sym (n i))) ∙ h .buffer,
   )
 
-  module _ (r : Read) (er : r ≡ nextAt s at) where
+  module _ (r : Read) (er : r ≡ nextAt g s at) where
     pub shade-halt : (k : Refusal) → r ≡ Refused k → (b′ : List ℕ) → b′ ≡ sets b at (paint (between false 0 0 (length s)) (slice at (length s) s) at) → Done (Stopped k) b′
     unfolding answerOf insideAt
-    shade-halt k e b′ q = let t = tokens-halt s at r er k e in finish (Stopped k) b′ q (rw t) (λ i. rw t)
+    shade-halt k e b′ q = let t = tokens-halt g s at r er k e in finish (Stopped k) b′ q (rw t) (λ i. rw t)
 
     module _ (k : Token) (e : r ≡ Got k) where
       pub shade-fin : k .span .end ≡ at → (b′ : List ℕ) → b′ ≡ sets b at (paint (between false 0 0 (length s)) (slice at (length s) s) at) → Done Whole b′
       unfolding answerOf insideAt
-      shade-fin z b′ q = let t = tokens-fin s at r er k e z in finish Whole b′ q (rw t) (λ i. rw t)
+      shade-fin z b′ q = let t = tokens-fin g s at r er k e z in finish Whole b′ q (rw t) (λ i. rw t)
 
       module _ (z : k .span .end ≡ at → ⊥) where
         pub shade-past : at < k .span .end
-        shade-past = tokens-past s at r er k e z
+        shade-past = tokens-past g s at r er k e z
 
         pub shade-room : k .span .end ≤ length s
-        shade-room = tokens-room s at r er k e z
+        shade-room = tokens-room g s at r er k e z
 
         pub shade-more : (inside : Bool) (lo kept : ℕ) → inside ≡ hasInside (k .kind) → lo ≡ at + length (openMark (k .kind)) → kept ≡ length (closeMark (k .kind))
-            → (b′ : List ℕ) → length b′ ≡ length b → b′ ≡ sets b at (paint (between inside lo kept (k .span .end)) (slice at (k .span .end) s) at) → Shaded s b₀ b′ (k .span .end)
+            → (b′ : List ℕ) → length b′ ≡ length b → b′ ≡ sets b at (paint (between inside lo kept (k .span .end)) (slice at (k .span .end) s) at) → Shaded g s b₀ b′ (k .span .end)
         unfolding answerOf insideAt insideToken
         shade-more inside lo kept ei el es b′ len q =
             let end = k .span .end in
-            let t = tokens-more s at r er k e z in
-            let st = tokens-start s at r er k e in
+            let t = tokens-more g s at r er k e z in
+            let st = tokens-start g s at r er k e in
             let past = shade-past in
             record {
               buffer =
-                  ap (λ (x : List ℕ). sets x end (paint (insideAt (tokensAt base s end)) (drop end s) end)) q
-                  ∙ piece (insideAt (tokensAt base s at)) (between inside lo kept end) (insideAt (tokensAt base s end)) s b at end (omega arith) shade-room
+                  ap (λ (x : List ℕ). sets x end (paint (insideAt (tokensAt (rulesOf g) s end)) (drop end s) end)) q
+                  ∙ piece (insideAt (tokensAt (rulesOf g) s at)) (between inside lo kept end) (insideAt (tokensAt (rulesOf g) s end)) s b at end (omega arith) shade-room
                   (λ i u v. rw (t, lt-ltb i end v, insideAt) (λ j. both (sym ei j) (both (leb ((ap (λ (x : ℕ). x + length (openMark (k .kind))) st ∙ sym el) j) i) (ltb (i + sym es j) end))))
                   (λ i u. rw (t, le-ltb i end u, insideAt))
                   ∙ h .buffer;
@@ -154,8 +155,8 @@ module _ (b : ℕ) (inside : Bool) (i lo kept left : ℕ) where
   pub shade-before : inside ≡ true → i < lo → b ≡ pick (both inside (both (leb lo i) (ltb kept left))) 0x78 b
   shade-before e h = sym (simp (e, lt-leb lo i h))
 
-pub by-test : (s : List ℕ) (room : ℕ) (t : Tested) → t ≡ sourceTest s
-    → (outlineOf s room ≡ elim t [ Sound ↦ pick (ltb room (length s)) (Stopped (pointRefusal 3 0)) (answerOf (tokensAt base s 0)) | TooLong ↦ Stopped (pointRefusal 1 0) | IllFormed p ↦ Stopped (pointRefusal 2 p) | Misplaced p ↦ Stopped (pointRefusal 4 p) ])
-    × (writtenOf s room ≡ elim t [ Sound ↦ pick (ltb room (length s)) [] (outlined base s) | TooLong ↦ [] | IllFormed p ↦ [] | Misplaced p ↦ [] ])
+pub by-test : (g : Reading) (s : List ℕ) (room : ℕ) (t : Tested) → t ≡ sourceTest s
+    → (outlineOf g s room ≡ elim t [ Sound ↦ pick (ltb room (length s)) (Stopped (pointRefusal 3 0)) (answerOf (tokensAt (rulesOf g) s 0)) | TooLong ↦ Stopped (pointRefusal 1 0) | IllFormed p ↦ Stopped (pointRefusal 2 p) | Misplaced p ↦ Stopped (pointRefusal 4 p) ])
+    × (writtenOf g s room ≡ elim t [ Sound ↦ pick (ltb room (length s)) [] (outlined (rulesOf g) s) | TooLong ↦ [] | IllFormed p ↦ [] | Misplaced p ↦ [] ])
 unfolding outlineOf writtenOf
-by-test s room t e = (rw (← e, outlineOf), rw (← e, writtenOf))
+by-test g s room t e = (rw (← e, outlineOf), rw (← e, writtenOf))

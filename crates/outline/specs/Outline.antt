@@ -9,7 +9,8 @@ use Rattle.marks.specs.Marks.{closeMark, openMark}
 use Rattle.numbers.specs.Kinds.{hasInside}
 use Rattle.outline.specs.declared.Outlined.{Outlined}
 use Rattle.outline.specs.declared.Outlined.the-variants.{Stopped, Whole}
-use Rattle.readers.specs.Rules.{Rules, base}
+use Rattle.readers.specs.Rules.{Rules, rulesOf}
+use Rattle.readers.specs.declared.reading.Reading.{Reading}
 use Rattle.sound.specs.Source.{sourceTest}
 use Rattle.sound.specs.declared.Tested.the-variants.{IllFormed, Misplaced, Sound, TooLong}
 use Rattle.token.specs.Reads.{pointRefusal}
@@ -45,20 +46,20 @@ answerOf (halt r) = Stopped r
 answerOf (more k ts) = answerOf ts
 
 -- 1, 2, then 3 for a buffer shorter than the source
-unfoldable pub outlineOf : List ℕ → ℕ → Outlined
-outlineOf s room =
+unfoldable pub outlineOf : Reading → List ℕ → ℕ → Outlined
+outlineOf g s room =
     elim (sourceTest s) [
-      | Sound ↦ pick (ltb room (length s)) (Stopped (pointRefusal 3 0)) (answerOf (tokensAt base s 0))
+      | Sound ↦ pick (ltb room (length s)) (Stopped (pointRefusal 3 0)) (answerOf (tokensAt (rulesOf g) s 0))
       | TooLong ↦ Stopped (pointRefusal 1 0)
       | IllFormed p ↦ Stopped (pointRefusal 2 p)
       | Misplaced p ↦ Stopped (pointRefusal 4 p)
     ]
 
 -- what is written to the front of the buffer: nothing by these three
-unfoldable pub writtenOf : List ℕ → ℕ → List ℕ
-writtenOf s room =
+unfoldable pub writtenOf : Reading → List ℕ → ℕ → List ℕ
+writtenOf g s room =
     elim (sourceTest s) [
-      | Sound ↦ pick (ltb room (length s)) [] (outlined base s)
+      | Sound ↦ pick (ltb room (length s)) [] (outlined (rulesOf g) s)
       | TooLong ↦ []
       | IllFormed p ↦ []
       | Misplaced p ↦ []

@@ -1,4 +1,5 @@
 // A source with x over every byte inside its strings, byte strings, comments and templates, in a lent buffer. One pass, each token read once.
+use readers::Reading;
 use sound::Tested;
 use token::Kind;
 use token::Read;
@@ -17,7 +18,7 @@ ghost use lib.ListN.{length};
 ghost use Rattle.laws.specs.Bools.{both, pick};
 ghost use Rattle.outline.specs.Outline.{answerOf, between, outlineOf, outlined, paint, writtenOf};
 ghost use Rattle.outline.specs.declared.Outlined.the-variants.{Stopped};
-ghost use Rattle.readers.specs.Rules.{base};
+ghost use Rattle.readers.specs.Rules.{rulesOf};
 ghost use Rattle.token.specs.Reads.{pointRefusal};
 ghost use Rattle.tokens.specs.Tokens.{tokensAt};
 
@@ -64,13 +65,13 @@ fn fill(s: &[u8], out: &mut [u8], a: usize, e: usize, inside: bool, lo: usize, k
     }
 }
 
-fn outline_tokens(s: &[u8], out: &mut [u8]) -> Outlined
+fn outline_tokens(s: &[u8], reading: Reading, out: &mut [u8]) -> Outlined
     requires { ⌜ length (now s) ≤ length (now out) ⌝ }
-    ensures { λ r. ⌜ (r ≡ answerOf (tokensAt base (now (s .entry)) 0)) × (now (out .exit) ≡ sets (now (out .entry)) 0 (outlined base (now (s .entry)))) ⌝ }
+    ensures { λ r. ⌜ (r ≡ answerOf (tokensAt (rulesOf reading) (now (s .entry)) 0)) × (now (out .exit) ≡ sets (now (out .entry)) 0 (outlined (rulesOf reading) (now (s .entry)))) ⌝ }
 {
     let mut at: usize = 0;
     loop {
-        match lexer::next(s, at) {
+        match lexer::next(s, reading, at) {
             Read::Refused { refusal } => {
                 fill(s, out, at, s.len(), false, 0, 0);
                 return Outlined::Stopped { refusal };
@@ -98,21 +99,21 @@ fn outline_tokens(s: &[u8], out: &mut [u8]) -> Outlined
     }
 }
 
-fn outline_fitting(s: &[u8], out: &mut [u8]) -> Outlined
-    ensures { λ r. ⌜ (r ≡ pick (ltb (length (now (out .entry))) (length (now (s .entry)))) (Stopped (pointRefusal 3 0)) (answerOf (tokensAt base (now (s .entry)) 0)))
-        × (now (out .exit) ≡ sets (now (out .entry)) 0 (pick (ltb (length (now (out .entry))) (length (now (s .entry)))) [] (outlined base (now (s .entry))))) ⌝ }
+fn outline_fitting(s: &[u8], reading: Reading, out: &mut [u8]) -> Outlined
+    ensures { λ r. ⌜ (r ≡ pick (ltb (length (now (out .entry))) (length (now (s .entry)))) (Stopped (pointRefusal 3 0)) (answerOf (tokensAt (rulesOf reading) (now (s .entry)) 0)))
+        × (now (out .exit) ≡ sets (now (out .entry)) 0 (pick (ltb (length (now (out .entry))) (length (now (s .entry)))) [] (outlined (rulesOf reading) (now (s .entry))))) ⌝ }
 {
     if out.len() < s.len() {
         return refused_at(NO_ROOM, 0);
     }
-    outline_tokens(s, out)
+    outline_tokens(s, reading, out)
 }
 
-pub fn outline(s: &[u8], out: &mut [u8]) -> Outlined
-    ensures { λ r. ⌜ (r ≡ outlineOf (now (s .entry)) (length (now (out .entry)))) × (now (out .exit) ≡ sets (now (out .entry)) 0 (writtenOf (now (s .entry)) (length (now (out .entry))))) ⌝ }
+pub fn outline(s: &[u8], reading: Reading, out: &mut [u8]) -> Outlined
+    ensures { λ r. ⌜ (r ≡ outlineOf reading (now (s .entry)) (length (now (out .entry)))) × (now (out .exit) ≡ sets (now (out .entry)) 0 (writtenOf reading (now (s .entry)) (length (now (out .entry))))) ⌝ }
 {
     match sound::test_source(s) {
-        Tested::Sound => outline_fitting(s, out),
+        Tested::Sound => outline_fitting(s, reading, out),
         Tested::TooLong => refused_at(TOO_LONG, 0),
         Tested::IllFormed { at } => refused_at(ILL_FORMED, at),
         Tested::Misplaced { at } => refused_at(NO_PLACE, at),

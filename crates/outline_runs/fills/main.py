@@ -9,14 +9,14 @@ fill('same_words', {
     'Inv-loop': 'Unit {0}', 'μ-loop': 'length a - i', 'loop-holds': 'tt', 'loop-again': 'tt', 'mul-if4': 'omega (arith, @loop-test .taken, @Start .good)', 'mul-plain': 'omega (arith, @loop-test .taken, @Start .good)', 'mul-if4-2': 'omega (arith, @if1 .left, @Start .good)', 'mul-plain-2': 'omega (arith, @if1 .left, @Start .good)'}, head='What is left to compare falls. Assumes nothing.')
 
 N = '(length (@Start .args .s .now))'
-once = f'let h = sym (length-take-le {N} (@outline .last .1 .0) (omega (arith, @outline .kept .1 .0, @if1 .left))) in search needs'
+once = f'let h = sym (length-take-le {N} (@outline .last .1 .1 .0) (omega (arith, @outline .kept .1 .1 .0, @if1 .left))) in search needs'
 fill('agrees', {
     'slice-aggregate-outline': once, 'slice-aggregate-lists-alike': once,
-    'same-length': '@outline .kept .1 .0', 'same-length-2': '@outline2 .kept .1 .0',
-    'same-length-3': '@outline .kept .1 .0', 'same-length-4': '@outline2 .kept .1 .0',
-    'same-length-5': '@lists-alike .kept .1 .1 .0', 'same-length-6': '@lists-alike .kept .1 .1 .1 .0'},
+    'same-length': '@outline .kept .1 .1 .0', 'same-length-2': '@outline2 .kept .1 .1 .0',
+    'same-length-3': '@outline .kept .1 .1 .0', 'same-length-4': '@outline2 .kept .1 .1 .0',
+    'same-length-5': '@lists-alike .kept .1 .1 .1 .0', 'same-length-6': '@lists-alike .kept .1 .1 .1 .1 .0'},
     head='The lent bytes keep their length, and hold a source as long as this one. Assumes nothing.')
-KEPT = [f'@agrees .kept .1{" .1" * i} .0' for i in range(4)] + ['@refuses .kept .1 .0', 'refl']
+KEPT = [f'@agrees .kept .1 .1{" .1" * i} .0' for i in range(4)] + ['@refuses .kept .1 .1 .0', 'refl']
 fill('try_one', {
     'slice-aggregate-part': 'let h = sym (length-take-le (@Start .args .n) (@Start .args .s .now) (@if1 .left)) in search needs',
     **{'same-length' + (f'-{i + 1}' if i else ''): KEPT[i % 6] for i in range(12)}})

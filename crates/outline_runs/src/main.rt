@@ -1,14 +1,16 @@
 // Demand 3 run beside its proof: random sources over tricky characters, and damaged copies of the rule files on standard input, are
 // outlined twice and listed, and what the theorems say is tested on each.
 mod sources;
+ghost use Prim.Native.Nat.{_+_, _≤_, _<_};
+ghost use lib.ListN.{length};
 
 use listing::Listed;
 use outline::Outlined;
+use readers::Comments;
+use readers::Reading;
 use sound::Tested;
 use token::Refusal;
 use token::Span;
-ghost use Prim.Native.Nat.{_+_, _≤_, _<_};
-ghost use lib.ListN.{length};
 
 // The kind up to the escape mark.
 fn plain(kind: u32) -> u32 {
@@ -80,9 +82,15 @@ fn same_answer(a: Listed, b: Listed) -> bool {
 }
 
 // Outline and source list alike, and the later words of the two stores stay alike.
-fn lists_alike(s: &[u8], outlined: &[u8], words: &mut [u32], others: &mut [u32]) -> bool {
-    let a = listing::list(s, words);
-    let b = listing::list(outlined, others);
+fn lists_alike(
+    s: &[u8],
+    reading: Reading,
+    outlined: &[u8],
+    words: &mut [u32],
+    others: &mut [u32],
+) -> bool {
+    let a = listing::list(s, reading, words);
+    let b = listing::list(outlined, reading, others);
     if !same_answer(a, b) {
         return false;
     }
@@ -92,6 +100,7 @@ fn lists_alike(s: &[u8], outlined: &[u8], words: &mut [u32], others: &mut [u32])
 // Outlining the outline changes nothing. The two buffers were alike before, so they are now, also past the source.
 fn agrees(
     s: &[u8],
+    reading: Reading,
     once: &mut [u8],
     twice: &mut [u8],
     words: &mut [u32],
@@ -101,17 +110,17 @@ fn agrees(
     if once.len() < n {
         return false;
     }
-    outline::outline(s, once);
-    outline::outline(&once[..n], twice);
+    outline::outline(s, reading, once);
+    outline::outline(&once[..n], reading, twice);
     if !check::same(once, twice) {
         return false;
     }
-    lists_alike(s, &once[..n], words, others)
+    lists_alike(s, reading, &once[..n], words, others)
 }
 
 // An ill-formed source is refused with 2 at its first bad sequence, and the buffer stays as it was: like the other one.
-fn refuses(s: &[u8], once: &mut [u8], twice: &[u8], at: usize) -> bool {
-    let Outlined::Stopped { refusal } = outline::outline(s, once) else {
+fn refuses(s: &[u8], reading: Reading, once: &mut [u8], twice: &[u8], at: usize) -> bool {
+    let Outlined::Stopped { refusal } = outline::outline(s, reading, once) else {
         return false;
     };
     let expected = Refusal {
@@ -134,6 +143,7 @@ enum Tried {
 // The source is the first n bytes.
 fn try_one(
     s: &[u8],
+    reading: Reading,
     n: usize,
     once: &mut [u8],
     twice: &mut [u8],
@@ -146,13 +156,13 @@ fn try_one(
     let part = &s[..n];
     match sound::test_source(part) {
         Tested::Sound => {
-            if agrees(part, once, twice, words, others) {
+            if agrees(part, reading, once, twice, words, others) {
                 return Tried::WellFormed;
             }
             Tried::Different
         }
         Tested::IllFormed { at } => {
-            if refuses(part, once, twice, at) {
+            if refuses(part, reading, once, twice, at) {
                 return Tried::IllFormed;
             }
             Tried::Different
@@ -184,6 +194,19 @@ fn counted(counts: Counts, tried: Tried) -> Counts
     }
 }
 
+// The two readings in turn.
+fn reading_of(turn: u64) -> Reading {
+    if turn % 2 == 0 {
+        Reading {
+            comments: Comments::Crate,
+        }
+    } else {
+        Reading {
+            comments: Comments::First,
+        }
+    }
+}
+
 fn try_random() -> Counts {
     let mut s = [0u8; 60];
     let mut once = [0u8; 64];
@@ -199,7 +222,15 @@ fn try_random() -> Counts {
     while turn < 300000 {
         seed = sources::make(&mut s, seed);
         let n = (turn % 60) as usize;
-        let tried = try_one(&s, n, &mut once, &mut twice, &mut words, &mut others);
+        let tried = try_one(
+            &s,
+            reading_of(turn),
+            n,
+            &mut once,
+            &mut twice,
+            &mut words,
+            &mut others,
+        );
         counts = counted(counts, tried);
         turn = turn + 1;
     }
@@ -224,7 +255,15 @@ fn try_damaged(file: &[u8]) -> Counts
         let damaged = sources::damage(file, &mut s, seed);
         seed = damaged.seed;
         let n = damaged.length;
-        let tried = try_one(&s, n, &mut once, &mut twice, &mut words, &mut others);
+        let tried = try_one(
+            &s,
+            reading_of(turn),
+            n,
+            &mut once,
+            &mut twice,
+            &mut words,
+            &mut others,
+        );
         counts = counted(counts, tried);
         turn = turn + 1;
     }

@@ -1,5 +1,8 @@
-// The outline of standard input on standard output; why reading stopped, if it did, on standard error.
+// The outline of standard input on standard output; why reading stopped, if it did, on standard error. Comments end as in rune unless
+// `--comments first` is asked.
 use outline::Outlined;
+use readers::Chosen;
+use readers::Reading;
 use token::Refusal;
 
 fn say(refusal: Refusal) {
@@ -13,13 +16,13 @@ fn say(refusal: Refusal) {
 }
 
 // The refusals 1, 2 and 3 write no outline.
-fn print(s: &[u8], out: &mut [u8]) {
+fn print(s: &[u8], reading: Reading, out: &mut [u8]) {
     if out.len() < s.len() {
         io::write_all(2, b"refused 1 0 0\n");
         return;
     }
     let n = s.len();
-    match outline::outline(s, out) {
+    match outline::outline(s, reading, out) {
         Outlined::Whole => {
             io::write_all(1, &out[..n]);
         }
@@ -33,8 +36,12 @@ fn print(s: &[u8], out: &mut [u8]) {
 }
 
 fn main() {
+    let Chosen::OneReading { reading } = arguments::asked() else {
+        arguments::say_usage(b"outliner");
+        return;
+    };
     let mut source = [0u8; 65537];
     let got = io::read_full(0, &mut source);
     let mut out = [0u8; 65536];
-    print(&source[..got], &mut out);
+    print(&source[..got], reading, &mut out);
 }

@@ -3,6 +3,7 @@
 use buffer::put;
 use buffer::put_bytes;
 use buffer::put_decimal;
+use readers::Reading;
 use sound::Tested;
 use token::Read;
 use token::refusal::ILL_FORMED;
@@ -30,12 +31,12 @@ fn put_end(out: &mut [u8], waiting: usize, count: usize) -> usize {
 }
 
 // Each token goes past its start, so the bytes left fall.
-fn list_tokens(s: &[u8], out: &mut [u8], waiting: usize) -> usize {
+fn list_tokens(s: &[u8], reading: Reading, out: &mut [u8], waiting: usize) -> usize {
     let mut waiting = waiting;
     let mut at: usize = 0;
     let mut count: usize = 0;
     loop {
-        match lexer::next(s, at) {
+        match lexer::next(s, reading, at) {
             Read::Refused { refusal } => {
                 let span = refusal.span;
                 return put_refused(out, waiting, refusal.number, span.start, span.end);
@@ -55,9 +56,9 @@ fn list_tokens(s: &[u8], out: &mut [u8], waiting: usize) -> usize {
     }
 }
 
-pub fn list(s: &[u8], out: &mut [u8], waiting: usize) -> usize {
+pub fn list(s: &[u8], reading: Reading, out: &mut [u8], waiting: usize) -> usize {
     match sound::test_source(s) {
-        Tested::Sound => list_tokens(s, out, waiting),
+        Tested::Sound => list_tokens(s, reading, out, waiting),
         Tested::TooLong => put_refused(out, waiting, TOO_LONG, 0, 0),
         Tested::IllFormed { at } => put_refused(out, waiting, ILL_FORMED, at, at),
         Tested::Misplaced { at } => put_refused(out, waiting, NO_PLACE, at, at),

@@ -1,15 +1,29 @@
-def told(fn, of, call, then='.ensures', tell='tell'):
+def told(fn, of, call, then='.ensures', tell='tell2'):
     return f'tells _ _ _ _ (@{tell} .ensures) (@{fn} .ensures ∙ ap {of} (@{call} {then}))'
 
 
-fill('puffsatchel_test', {'returns': told('of-tested', 'ofTested', 'test-source')})
-fill('puffsatchel_read', {'returns': told('of-read', 'ofRead', 'read')})
-fill('puffsatchel_next', {'returns': told('of-read', 'ofRead', 'next')})
+fill('puffsatchel_test', {'returns': told('of-tested', 'ofTested', 'test-source', tell='tell')})
+
+S = {'s': '(@Start .args .source .now)', 'n': '(@Start .args .reading)', 'at': '(@Start .args .at)',
+     'none': '(sym (@enum-told .given .1) ∙ @reading-of .ensures) (tells _ _ _ _ (@tell .ensures) (@point .ensures))',
+     'known': '(@known .given .0 .0) (sym (@known .given .1) ∙ @reading-of .ensures)'}
 
 
-def lent(fn, of, call):
-    return f"let w = {told(fn, of, call, '.ensures .0')} in (w .0, @{call} .ensures .1, w .1)"
+def read(fn, call, answer):
+    by = f'$n$ (λ (g : Reading). ofRead ({answer} g $s$ $at$)) _ _'
+    fill(fn, {'returns': f'told-none {by} $none$', 'returns-2': f'told-one {by} $known$ ({told("of-read", "ofRead", call)})'}, macros=S)
 
 
-fill('puffsatchel_list', {'returns': lent('of-listed', 'ofListed', 'list')})
-fill('puffsatchel_outline', {'returns': lent('of-outlined', 'ofOutlined', 'outline')})
+read('puffsatchel_read', 'read', 'readAt')
+read('puffsatchel_next', 'next', 'nextAt')
+
+
+def lent(fn, out, told_by, of, call, answer, written):
+    by = f'$n$ (λ (g : Reading). {of} ({answer} g $s$ (length $o$))) _ _ (λ (g : Reading). {written} g $s$ (length $o$)) $o$ _'
+    fill(fn, {'returns': f'left-none {by} $none$ refl',
+              'returns-2': f"left-one {by} $known$ ({told(told_by, of, call, '.ensures .0')}) (@{call} .ensures .1)"},
+         macros=dict(S, o=f'(@Start .args .{out} .now)'))
+
+
+lent('puffsatchel_list', 'store', 'of-listed', 'ofListed', 'list', 'listOf', 'storedOf')
+lent('puffsatchel_outline', 'out', 'of-outlined', 'ofOutlined', 'outline', 'outlineOf', 'writtenOf')

@@ -9,19 +9,19 @@ use Rattle.puffsatchel.specs.Calls.{listLeaves, listTells, nextTells, ou
 pub version-determined : (r q : ℕ) → r ≡ version → q ≡ version → r ≡ q
 version-determined r q h k = determined r q h k
 
-module _ (s : List ℕ) (r q : ℕ) (v w : List ℕ) where
-  pub test-determined : Told-by (testTells s) r v → Told-by (testTells s) q w → (r ≡ q) × (v ≡ w)
-  test-determined = told-determined (testTells s) r q v w
+pub test-determined : (s : List ℕ) (r q : ℕ) (v w : List ℕ) → Told-by (testTells s) r v → Told-by (testTells s) q w → (r ≡ q) × (v ≡ w)
+test-determined s r q v w = told-determined (testTells s) r q v w
 
-  pub read-determined : (at : ℕ) → Told-by (readTells s at) r v → Told-by (readTells s at) q w → (r ≡ q) × (v ≡ w)
-  read-determined at = told-determined (readTells s at) r q v w
+module _ (n : ℕ) (s : List ℕ) (r q : ℕ) (v w : List ℕ) where
+  pub read-determined : (at : ℕ) → Told-by (readTells n s at) r v → Told-by (readTells n s at) q w → (r ≡ q) × (v ≡ w)
+  read-determined at = told-determined (readTells n s at) r q v w
 
-  pub next-determined : (at : ℕ) → Told-by (nextTells s at) r v → Told-by (nextTells s at) q w → (r ≡ q) × (v ≡ w)
-  next-determined at = told-determined (nextTells s at) r q v w
+  pub next-determined : (at : ℕ) → Told-by (nextTells n s at) r v → Told-by (nextTells n s at) q w → (r ≡ q) × (v ≡ w)
+  next-determined at = told-determined (nextTells n s at) r q v w
 
   module _ (l o p : List ℕ) where
-    pub list-determined : Left-by (listTells s l) (listLeaves s l) r o v → Left-by (listTells s l) (listLeaves s l) q p w → (r ≡ q) × (o ≡ p) × (v ≡ w)
-    list-determined = left-determined (listTells s l) (listLeaves s l) r q o p v w
+    pub list-determined : Left-by (listTells n s l) (listLeaves n s l) r o v → Left-by (listTells n s l) (listLeaves n s l) q p w → (r ≡ q) × (o ≡ p) × (v ≡ w)
+    list-determined = left-determined (listTells n s l) (listLeaves n s l) r q o p v w
 
-    pub outline-determined : Left-by (outlineTells s l) (outlineLeaves s l) r o v → Left-by (outlineTells s l) (outlineLeaves s l) q p w → (r ≡ q) × (o ≡ p) × (v ≡ w)
-    outline-determined = left-determined (outlineTells s l) (outlineLeaves s l) r q o p v w
+    pub outline-determined : Left-by (outlineTells n s l) (outlineLeaves n s l) r o v → Left-by (outlineTells n s l) (outlineLeaves n s l) q p w → (r ≡ q) × (o ≡ p) × (v ≡ w)
+    outline-determined = left-determined (outlineTells n s l) (outlineLeaves n s l) r q o p v w

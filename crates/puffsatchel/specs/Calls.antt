@@ -3,6 +3,7 @@ use Prim.Native.Nat.{ℕ}
 use mathlib.Core.List.{List}
 use lib.Seq.{sets}
 use lib.ListN.{length}
+use Rattle.answers.specs.Readings.{readingOf, tellsBy, writesBy}
 use Rattle.answers.specs.Told.{ofListed, ofOutlined, ofRead, ofTested}
 use Rattle.answers.specs.declared.Told.{Told}
 use Rattle.lexer.specs.Next.{nextAt, readAt}
@@ -12,25 +13,26 @@ use Rattle.sound.specs.Source.{sourceTest}
 
 -- goes up with every change of a call, of a number or of what is promised
 abbrev pub version : ℕ
-version = 3
+version = 4
 
 abbrev pub testTells : List ℕ → Told
 testTells s = ofTested (sourceTest s)
 
-abbrev pub readTells : List ℕ → ℕ → Told
-readTells s at = ofRead (readAt s at)
+-- the number of a reading comes right after the source
+abbrev pub readTells : ℕ → List ℕ → ℕ → Told
+readTells n s at = tellsBy (readingOf n) (λ g. ofRead (readAt g s at))
 
-abbrev pub nextTells : List ℕ → ℕ → Told
-nextTells s at = ofRead (nextAt s at)
+abbrev pub nextTells : ℕ → List ℕ → ℕ → Told
+nextTells n s at = tellsBy (readingOf n) (λ g. ofRead (nextAt g s at))
 
-abbrev pub listTells : List ℕ → List ℕ → Told
-listTells s store = ofListed (listOf s (length store))
+abbrev pub listTells : ℕ → List ℕ → List ℕ → Told
+listTells n s store = tellsBy (readingOf n) (λ g. ofListed (listOf g s (length store)))
 
-abbrev pub listLeaves : List ℕ → List ℕ → List ℕ
-listLeaves s store = sets store 0 (storedOf s (length store))
+abbrev pub listLeaves : ℕ → List ℕ → List ℕ → List ℕ
+listLeaves n s store = sets store 0 (writesBy (readingOf n) (λ g. storedOf g s (length store)))
 
-abbrev pub outlineTells : List ℕ → List ℕ → Told
-outlineTells s out = ofOutlined (outlineOf s (length out))
+abbrev pub outlineTells : ℕ → List ℕ → List ℕ → Told
+outlineTells n s out = tellsBy (readingOf n) (λ g. ofOutlined (outlineOf g s (length out)))
 
-abbrev pub outlineLeaves : List ℕ → List ℕ → List ℕ
-outlineLeaves s out = sets out 0 (writtenOf s (length out))
+abbrev pub outlineLeaves : ℕ → List ℕ → List ℕ → List ℕ
+outlineLeaves n s out = sets out 0 (writesBy (readingOf n) (λ g. writtenOf g s (length out)))

@@ -20,7 +20,8 @@ use Rattle.operators.specs.Operators.{findOne, findThree, findTwo, foundAt, loo
 use Rattle.operators.specs.declared.Operator.{Operator}
 use Rattle.operators.specs.declared.Operator.the-variants.{Found, Nothing}
 use Rattle.quick_operators.specs.Quick.{bytesOf, packed, quickAt, quickOf}
-use Rattle.readers.specs.Rules.{base}
+use Rattle.readers.specs.Rules.{rulesOf}
+use Rattle.readers.specs.declared.reading.Reading.{Reading}
 use Rattle.templates.proofs.Turns.{token-plain}
 use Rattle.templates.specs.Body.{tokenOf}
 use Rattle.text.proofs.Decode.{Step, by-first, by-step, end-first, first-at, step-ascii, step-first}
@@ -124,7 +125,7 @@ module _ (s : List ℕ) where
       )
 
   module _ (a i : ℕ) where
-    two-bytes : findTwo base a (rest s i) i ≡ foundAt (lookTwo twos a (getD s i 0)) (i + 1)
+    two-bytes : findTwo width a (rest s i) i ≡ foundAt (lookTwo twos a (getD s i 0)) (i + 1)
     unfolding findTwo
     two-bytes =
         by-known (lookTwo twos a (getD s i 0))
@@ -132,7 +133,7 @@ module _ (s : List ℕ) where
         (λ w n t. rw (t .here, e) (by-known (lookTwo twos a w) (λ u. rw u) (λ k u. never (let p = step-byte i w n t (two-row a w k u .1) .0 in cc)))))
         (λ k e. let t = byte-step i (two-row a (getD s i 0) k e .1) in rw (t .here) (ap (foundAt (lookTwo twos a (getD s i 0))) (sym (t .next))))
 
-    three-bytes : findThree base a (rest s i) i ≡ foundAt (lookThree threes a (getD s i 0) (getD s (i + 1) 0)) (i + 2)
+    three-bytes : findThree width a (rest s i) i ≡ foundAt (lookThree threes a (getD s i 0) (getD s (i + 1) 0)) (i + 2)
     unfolding findThree
     three-bytes =
         by-known (lookThree threes a (getD s i 0) (getD s (i + 1) 0))
@@ -181,25 +182,25 @@ plain a b c q e h =
     split-eq a 35 (λ u. absurd (h (e ∙ rw (eq-eqb a 35 u))))
     (λ u. split-eq a 47 (λ v. absurd (h (e ∙ rw (eq-eqb a 47 v, either-true)))) (λ v. (u, v, e ∙ rw (ne-eqb a 35 u, ne-eqb a 47 v))))
 
--- the token that a number at a place tells
-pub record Quick (s : List ℕ) (at q : ℕ) : Type 0 where
+-- the token that a number at a place tells, in every mode
+pub record Quick (g : Reading) (s : List ℕ) (at q : ℕ) : Type 0 where
   pub kind : Kind
   pub number : numberOf kind ≡ q / 4
   pub some : 0 < q % 4
-  pub reads : gotOf kind at (at + q % 4) ≡ nextAt s at
+  pub reads : gotOf kind at (at + q % 4) ≡ nextAt g s at
 
-module _ (s : List ℕ) (at : ℕ) where
+module _ (g : Reading) (s : List ℕ) (at : ℕ) where
   -- what the rules read from an ASCII byte on, which is not `#` or a backtick, is what the reader reads
-  pub first-next : (k : Kind) (e : ℕ) → inRow (getD s at 0) ≡ true → (getD s at 0 ≡ 35 → ⊥) → (getD s at 0 ≡ 96 → ⊥) → gotOf k at e ≡ firstOf base noTemplate (getD s at 0) at (rest s (at + 1)) (at + 1)
-      → gotOf k at e ≡ nextAt s at
+  pub first-next : (k : Kind) (e : ℕ) → inRow (getD s at 0) ≡ true → (getD s at 0 ≡ 35 → ⊥) → (getD s at 0 ≡ 96 → ⊥) → gotOf k at e ≡ firstOf (rulesOf g) noTemplate (getD s at 0) at (rest s (at + 1)) (at + 1)
+      → gotOf k at e ≡ nextAt g s at
   unfolding laterAt
   first-next k e i u v h =
       let here = byte-step s at i in
-      let whole : gotOf k at e ≡ tokenOf base 64 (rest s at) at = h ∙ token-plain 64 s at (getD s at 0) (at + 1) here v in
-      ap (closeSpan (length s)) whole ∙ later-token s at (rw (here .here, ne-eqb (getD s at 0) 35 u, both-false))
+      let whole : gotOf k at e ≡ tokenOf (rulesOf g) 64 (rest s at) at = h ∙ token-plain g 64 s at (getD s at 0) (at + 1) here v in
+      ap (closeSpan (length s)) whole ∙ later-token g s at (rw (here .here, ne-eqb (getD s at 0) 35 u, both-false))
 
   -- an operator behind a first byte that is not `#` or `/` is what the reader reads
-  token-next : (k : Kind) (n : ℕ) → Told (getD s at 0) (getD s (at + 1) 0) (getD s (at + 2) 0) k n → (getD s at 0 ≡ 35 → ⊥) → (getD s at 0 ≡ 47 → ⊥) → gotOf k at (at + n) ≡ nextAt s at
+  token-next : (k : Kind) (n : ℕ) → Told (getD s at 0) (getD s (at + 1) 0) (getD s (at + 2) 0) k n → (getD s at 0 ≡ 35 → ⊥) → (getD s at 0 ≡ 47 → ⊥) → gotOf k at (at + n) ≡ nextAt g s at
   unfolding operatorOf findOne
   token-next k n t u v =
       let a = getD s at 0 in
@@ -210,11 +211,11 @@ module _ (s : List ℕ) (at : ℕ) where
       let m = both-inv (not (eqb a 96)) (not (eqb a 98)) (l .1) in
       let no : (x : ℕ) → not (eqb a x) ≡ true → a ≡ x → ⊥ = λ x h. eqb-false a x (not-true (eqb a x) h) in
       let two : at + 1 + 1 ≡ at + 2 = omega arith in
-      let op : operatorOf base a cs (at + 1) ≡ Found k (at + n) = rw (three-bytes s a (at + 1), two-bytes s a (at + 1), two) (rw two at (t .moved at)) in
+      let op : operatorOf width a cs (at + 1) ≡ Found k (at + n) = rw (three-bytes s a (at + 1), two-bytes s a (at + 1), two) (rw two at (t .moved at)) in
       first-next k (at + n) (i .0) u (no 96 (m .0))
-      (other-found noTemplate at cs (at + 1) a k (at + n) op ∙ first-other noTemplate at cs (at + 1) a (not-true (isWhiteSpace a) (j .0)) (no 34 (l .0)) v (no 98 (m .1)))
+      (other-found g noTemplate at cs (at + 1) a k (at + n) op ∙ first-other g noTemplate at cs (at + 1) a (not-true (isWhiteSpace a) (j .0)) (no 34 (l .0)) v (no 98 (m .1)))
 
-  pub quick-next : (q : ℕ) → q ≡ quickAt s at → (q ≡ 0 → ⊥) → Quick s at q
+  pub quick-next : (q : ℕ) → q ≡ quickAt s at → (q ≡ 0 → ⊥) → Quick g s at q
   unfolding quickAt
   quick-next q e h = by-operator (bytesOf a b c) refl
     where
@@ -227,7 +228,7 @@ module _ (s : List ℕ) (at : ℕ) where
       c : ℕ
       c = getD s (at + 2) 0
 
-      by-operator : (o : Operator) → bytesOf a b c ≡ o → Quick s at q
+      by-operator : (o : Operator) → bytesOf a b c ≡ o → Quick g s at q
       by-operator Nothing f = absurd (h (plain a b c q e h .2 ∙ rw f))
       by-operator (Found k n) f =
           let p = plain a b c q e h in

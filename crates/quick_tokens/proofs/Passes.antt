@@ -12,10 +12,9 @@ use Rattle.quick_tokens.specs.Tokens.{passing}
 use Rattle.readers.proofs.Scans.{scan-before, scan-end, scan-on}
 use Rattle.readers.proofs.Steps.{run-no, run-yes}
 use Rattle.readers.specs.Readers.{run, runStep}
-use Rattle.readers.specs.Rules.{base}
 use Rattle.readers.specs.Scan.{Stop, scan}
 use Rattle.text.proofs.Decode.{rest-end, step-ascii}
-use Rattle.text.specs.Utf8.{rest}
+use Rattle.text.specs.Utf8.{rest, width}
 
 module _ (f : ℕ → Bool) (s : List ℕ) (p : ℕ) where
   pub pass-end : length s ≤ p → passing f (drop p s) ≡ []
@@ -33,7 +32,7 @@ module _ (f : ℕ → Bool) (s : List ℕ) (p : ℕ) where
 -- a test on bytes, which ASCII alone pass, and one on scalars, which they pass too: where the byte behind a run is ASCII and passes neither, the runs are the same
 module _ (f g : ℕ → Bool) (low : (v : ℕ) → g v ≡ true → v ≤ 127) (yes : (v : ℕ) → g v ≡ true → f v ≡ true) (s : List ℕ) where
   scan-bytes : (k p l : ℕ) → length (passing g (drop p s)) ≡ k → getD s (p + k) 0 ≤ 127 → (g (getD s (p + k) 0) ≡ false → f (getD s (p + k) 0) ≡ false)
-      → p + k ≡ scan (runStep f) base tt l (rest s p) p .place
+      → p + k ≡ scan (runStep f) width tt l (rest s p) p .place
   scan-bytes zero p l e h n =
       let z : p + 0 ≡ p = omega arith in
       split-le (length s) p
@@ -56,6 +55,6 @@ module _ (f g : ℕ → Bool) (low : (v : ℕ) → g v ≡ true → v ≤ 127) (
       ∙ ap (λ (x : Stop (Unit {0})). x .place) (scan-on (runStep f) tt l s p (getD s p 0) (p + 1) t tt (run-yes f (getD s p 0) (rest s (p + 1)) (yes (getD s p 0) y))))
       (λ y. absurd (omega (arith, ap length (pass-stop g s p o y)))))
 
-  pub run-bytes : (p : ℕ) → let e = p + length (passing g (drop p s)) in getD s e 0 ≤ 127 → (g (getD s e 0) ≡ false → f (getD s e 0) ≡ false) → e ≡ run base f (rest s p) p
+  pub run-bytes : (p : ℕ) → let e = p + length (passing g (drop p s)) in getD s e 0 ≤ 127 → (g (getD s e 0) ≡ false → f (getD s e 0) ≡ false) → e ≡ run width f (rest s p) p
   unfolding run
   run-bytes p h n = scan-bytes (length (passing g (drop p s))) p p refl h n

@@ -7,7 +7,7 @@ M = {'s': '(@Start .args .s .now)', 'at': '(@Start .args .at)', 'p': '(@loop .p)
 
 def runs(fn, test, stays, stops):
     fill(fn, {
-        'Inv-loop': f'Goes (runStep {test}) tt s p (scan (runStep {test}) base tt at (rest s at) at)', 'μ-loop': 'length s - p',
+        'Inv-loop': f'Goes (runStep {test}) tt s p (scan (runStep {test}) width tt at (rest s at) at)', 'μ-loop': 'length s - p',
         'loop-holds': '($at$, refl)',
         'returns': ('run', f'ap $place$ (goes-end (runStep {test}) _ _ _ _ $g$ $end$)'),
         'returns-2': ('run', f'ap $place$ (goes-before (runStep {test}) _ _ _ _ $g$ _ _ $step$ tt (run-no {test} $v$ (rest $s$ $n$) ({stops})))'),
@@ -20,13 +20,18 @@ runs('comments/consume_line', 'inLine', 'ap not (ne-eqb _ _ (@if1 .left))', 'ap 
 fill('comments/pass_one', {
     'returns': 'pass-none _ _ (step-none $s$ $at$ (sym (@scalar-at .ensures) ∙ @enum-told .given .1))',
     'returns-2': 'pass-step _ _ _ _ (step-one $s$ $at$ _ _ (sym (@scalar-at .ensures) ∙ @next .given .1))'}, macros=M)
-fill('comments/next_multiline_comment', {
-    'Inv-loop': '(l : ℕ) × (commentRead start (scan commentStep base (commentAt star) l (rest s p) p) ≡ commentOf base start (rest s at) at)',
+fill('comments/pass_untested', {
+    'returns': '@pass-one2 .ensures ∙ simp (@enum-told .given .1, @pass-one .ensures)',
+    'returns-2': 'simp (@enum-told2 .given .1)'}, macros=M)
+fill('comments/comment_end', {
+    'Inv-loop': '(l : ℕ) × (endedOf (scan commentStep width (commentAt star) l (rest s p) p) ≡ commentEnd width 0 (rest s at) at)',
     'μ-loop': 'length s - p',
-    'loop-holds': ('commentOf', '($at$, comment-skip $a$ 0 $at$ $at$ $s$ (@pass-one .result) (@pass-one2 .result) (@pass-one2 .ensures) ∙ comment-skip $a$ 1 $at$ $at$ $s$ $at$ (@pass-one .result) (@pass-one .ensures))'),
-    'returns': '@got .ensures ∙ ap (commentRead $a$) (scan-end commentStep (commentAt (@loop .star)) ($g$ .0) $s$ $p$ $end$) ∙ $g$ .1',
-    'returns-2': '@got2 .ensures ∙ ap (commentRead $a$) (scan-behind commentStep starred ($g$ .0) $s$ $p$ $v$ $n$ $step$ starred (comment-close $v$ (rest $s$ $n$) (@if2 .taken))) ∙ $starred$',
+    'loop-holds': ('commentEnd', '($at$, refl)'),
+    'returns': 'ap endedOf (scan-end commentStep (commentAt (@loop .star)) ($g$ .0) $s$ $p$ $end$) ∙ $g$ .1',
+    'returns-2': 'ap endedOf (scan-behind commentStep starred ($g$ .0) $s$ $p$ $v$ $n$ $step$ starred (comment-close $v$ (rest $s$ $n$) (@if2 .taken))) ∙ $starred$',
     'loop-less': 'let t = $step$ in omega arith',
-    'loop-again': '($p$, ap (commentRead $a$) (scan-on commentStep (commentAt (@loop .star)) ($g$ .0) $s$ $p$ $v$ $n$ $step$ (commentAt (eqb $v$ 42)) (comment-more (@loop .star) $v$ (rest $s$ $n$) (⊎-elim (λ w e. w .1 .left) (λ w e. never (let z = w .left in cc)) (@if1 .came)))) ∙ $g$ .1)'},
-    macros=dict(M, a='(@Start .args .start)',
-                starred='ap (λ (b : Bool). commentRead $a$ (scan commentStep base (commentAt b) ($g$ .0) (rest $s$ $p$) $p$)) (sym (@if1 .taken)) ∙ $g$ .1'))
+    'loop-again': '($p$, ap endedOf (scan-on commentStep (commentAt (@loop .star)) ($g$ .0) $s$ $p$ $v$ $n$ $step$ (commentAt (eqb $v$ 42)) (comment-more (@loop .star) $v$ (rest $s$ $n$) (⊎-elim (λ w e. w .1 .left) (λ w e. never (let z = w .left in cc)) (@if1 .came)))) ∙ $g$ .1)'},
+    macros=dict(M, starred='ap (λ (b : Bool). endedOf (scan commentStep width (commentAt b) ($g$ .0) (rest $s$ $p$) $p$)) (sym (@if1 .taken)) ∙ $g$ .1'))
+fill('comments/next_multiline_comment', {
+    'returns': ('commentOf', '@got .ensures ∙ ap (λ (e : Ended). gotOf (MultilineComment (e .closed)) (@Start .args .start) (e .end)) (@comment-end .ensures ∙ comment-untested (@Start .args .comments) $s$ $at$ (@pass-untested .result) (@pass-untested .ensures))')},
+    macros=M)

@@ -2,10 +2,9 @@
 use Prim.Native.Nat.{ℕ}
 use mathlib.Core.Path.{_≡_, refl, sym, ap, _∙_}
 use mathlib.Core.List.{List, [], _∷_}
-use Rattle.readers.specs.Rules.{Rules, base}
-use Rattle.readers.specs.Scan.{Act, How, Stop, before, behind, ended, full, on, scan, short, stopAt}
+use Rattle.readers.specs.Scan.{Act, How, Stop, Wide, before, behind, ended, full, on, scan, short, stopAt}
 use Rattle.text.proofs.Decode.{Step}
-use Rattle.text.specs.Utf8.{rest}
+use Rattle.text.specs.Utf8.{rest, width}
 
 module _ {S : Type 0} where
   pub by-act {ℓ} : {X : Type ℓ} (a : Act S) → ((s : S) → a ≡ on s → X) → ((s : S) → a ≡ before s → X) → ((s : S) → a ≡ behind s → X) → X
@@ -15,26 +14,26 @@ module _ {S : Type 0} where
 
   -- from the place p, where the state is st and the last scalar read stands at l
   module _ (step : S → ℕ → List ℕ → Act S) (st : S) (l : ℕ) (s : List ℕ) (p : ℕ) where
-    pub scan-end : rest s p ≡ [] → stopAt st l p ended ≡ scan step base st l (rest s p) p
+    pub scan-end : rest s p ≡ [] → stopAt st l p ended ≡ scan step width st l (rest s p) p
     unfolding scan
     scan-end e = rw e
 
     module _ (v n : ℕ) (t : Step s p v n) where
-      pub scan-on : (st′ : S) → step st v (rest s n) ≡ on st′ → scan step base st′ p (rest s n) n ≡ scan step base st l (rest s p) p
+      pub scan-on : (st′ : S) → step st v (rest s n) ≡ on st′ → scan step width st′ p (rest s n) n ≡ scan step width st l (rest s p) p
       unfolding scan
-      scan-on st′ e = sym (rw (t .here) (rw (e, scan) (ap (scan step base st′ p (rest s n)) (sym (t .next)))))
+      scan-on st′ e = sym (rw (t .here) (rw (e, scan) (ap (scan step width st′ p (rest s n)) (sym (t .next)))))
 
-      pub scan-before : (st′ : S) → step st v (rest s n) ≡ before st′ → stopAt st′ l p short ≡ scan step base st l (rest s p) p
+      pub scan-before : (st′ : S) → step st v (rest s n) ≡ before st′ → stopAt st′ l p short ≡ scan step width st l (rest s p) p
       unfolding scan
       scan-before st′ e = rw (t .here) (rw (e, scan))
 
-      pub scan-behind : (st′ : S) → step st v (rest s n) ≡ behind st′ → stopAt st′ p n full ≡ scan step base st l (rest s p) p
+      pub scan-behind : (st′ : S) → step st v (rest s n) ≡ behind st′ → stopAt st′ p n full ≡ scan step width st l (rest s p) p
       unfolding scan
       scan-behind st′ e = sym (rw (t .here) (rw (e, scan) (ap (λ (q : ℕ). stopAt st′ p q full) (sym (t .next)))))
 
 -- what a loop's invariant says: the scan from here, with some last place, is the scan from the start
 abbrev pub Goes : {S : Type 0} → (S → ℕ → List ℕ → Act S) → S → List ℕ → ℕ → Stop S → Type 0
-Goes step st s p o = (l : ℕ) × (scan step base st l (rest s p) p ≡ o)
+Goes step st s p o = (l : ℕ) × (scan step width st l (rest s p) p ≡ o)
 
 module _ {S : Type 0} (step : S → ℕ → List ℕ → Act S) (st : S) (s : List ℕ) (p : ℕ) (o : Stop S) (g : Goes step st s p o) where
   pub goes-end : rest s p ≡ [] → stopAt st (g .0) p ended ≡ o
@@ -55,8 +54,8 @@ module _ {S : Type 0} (step : S → ℕ → List ℕ → Act S) (st : S) (s : Li
     goes-cut st′ e z = scan-end step st′ p s n z ∙ scan-on step st (g .0) s p v n t st′ e ∙ g .1
 
 -- the last place is of no account to where and why a scan stops
-module _ {S : Type 0} {A : Type 0} (step : S → ℕ → List ℕ → Act S) (R : Rules) (f : S → ℕ → How → A) where
-  pub scan-last : (st : S) (l l′ : ℕ) (cs : List ℕ) (p : ℕ) → let o = scan step R st l cs p in let o′ = scan step R st l′ cs p in f (o .state) (o .place) (o .how) ≡ f (o′ .state) (o′ .place) (o′ .how)
+module _ {S : Type 0} {A : Type 0} (step : S → ℕ → List ℕ → Act S) (w : Wide) (f : S → ℕ → How → A) where
+  pub scan-last : (st : S) (l l′ : ℕ) (cs : List ℕ) (p : ℕ) → let o = scan step w st l cs p in let o′ = scan step w st l′ cs p in f (o .state) (o .place) (o .how) ≡ f (o′ .state) (o′ .place) (o′ .how)
   unfolding scan
   scan-last st l l′ [] p = refl
   scan-last st l l′ (v ∷ cs) p = by-act (step st v cs) (λ s e. rw (e, scan) refl) (λ s e. rw (e, scan) refl) (λ s e. rw (e, scan) refl)

@@ -1,6 +1,6 @@
 -- What the code's tests say of each reader's step, in the order of the readers. Assumes nothing.
 use Prim.Native.Nat.{ℕ, suc}
-use mathlib.Core.Path.{_≡_, refl, sym, ap, _∙_, subst}
+use mathlib.Core.Path.{_≡_, refl, sym, ap, _∙_}
 use mathlib.Core.List.{List, []}
 use mathlib.Core.Bool.{Bool, true, false}
 use native.Mathlib.Omega.{arith}
@@ -10,14 +10,13 @@ use Rattle.classes.specs.Classes.{isControl}
 use Rattle.laws.proofs.Cases.{split}
 use Rattle.laws.specs.Bools.{both}
 use Rattle.readers.proofs.Scans.{scan-end, scan-last, scan-on}
-use Rattle.readers.specs.Readers.{Comments, Digits, beginsDigit, body, broken, byteStep, charAnswer, charStep, closedBy, commentStep, control, escape, fractional, inLabel, inNumber, integral, letters, numberStep, passOne, runStep, shut, skips, slash, slashed, starred, strStep, text}
-use Rattle.readers.specs.Rules.{base}
-use Rattle.readers.specs.Scan.{How, Stop, before, behind, on, scan}
+use Rattle.readers.specs.Readers.{Closing, Digits, beginsDigit, body, broken, byteStep, charAnswer, charStep, commentEnd, commentStep, control, endedOf, escape, fractional, inLabel, inNumber, integral, letters, numberStep, passOne, runStep, shut, skips, slash, slashed, starred, strStep, text, untested}
+use Rattle.readers.specs.Rules.{skipOf}
+use Rattle.readers.specs.Scan.{How, before, behind, on, stopAt}
+use Rattle.readers.specs.declared.reading.Comments.{Comments}
+use Rattle.readers.specs.declared.reading.Comments.the-variants.{Crate, First}
 use Rattle.text.proofs.Decode.{Step, by-step}
-use Rattle.text.specs.Utf8.{rest}
-use Rattle.token.specs.Reads.{gotOf}
-use Rattle.token.specs.declared.kind.Kind.the-variants.{MultilineComment}
-use Rattle.token.specs.declared.read.Read.{Read}
+use Rattle.text.specs.Utf8.{rest, width}
 
 pub run-yes : (f : ℕ → Bool) (v : ℕ) (cs : List ℕ) → f v ≡ true → runStep f tt v cs ≡ on tt
 run-yes f v cs h = rw h
@@ -26,7 +25,7 @@ pub run-no : (f : ℕ → Bool) (v : ℕ) (cs : List ℕ) → f v ≡ false → 
 run-no f v cs h = rw h
 
 -- the code's flag: the last scalar was a star
-abbrev pub commentAt : Bool → Comments
+abbrev pub commentAt : Bool → Closing
 commentAt true = starred
 commentAt false = skips 0
 
@@ -129,30 +128,28 @@ module _ (l m : Bool) (v : ℕ) (cs : List ℕ) where
           unfolding charStep
           char-other h = rw (ne-eqb v 92 n, ne-eqb v 39 q, k, i, h, charStep)
 
--- a comment's answer, and the scalars passed over before its close is looked for
-abbrev pub commentRead : ℕ → Stop Comments → Read
-commentRead a o = gotOf (MultilineComment (closedBy (o .how))) a (o .place)
-
-pub pass-none : (s : List ℕ) (at : ℕ) → rest s at ≡ [] → at ≡ passOne base (rest s at) at
+-- a scalar passed over, at the end of the text too
+pub pass-none : (s : List ℕ) (at : ℕ) → rest s at ≡ [] → at ≡ passOne width (rest s at) at
 pass-none s at e = rw e
 
-pub pass-step : (s : List ℕ) (at v n : ℕ) → Step s at v n → n ≡ passOne base (rest s at) at
+pub pass-step : (s : List ℕ) (at v n : ℕ) → Step s at v n → n ≡ passOne width (rest s at) at
 pass-step s at v n t = rw (t .here) (t .next)
 
-pub comment-skip : (a k l l′ : ℕ) (s : List ℕ) (at q : ℕ) → q ≡ passOne base (rest s at) at
-    → commentRead a (scan commentStep base (skips k) l′ (rest s q) q) ≡ commentRead a (scan commentStep base (skips (suc k)) l (rest s at) at)
-unfolding commentStep
-comment-skip a k l l′ s at q h =
-    by-step s at
-    (λ e.
-    let z : q ≡ at = h ∙ sym (pass-none s at e) in
-    subst (λ (x : ℕ). commentRead a (scan commentStep base (skips k) l′ (rest s x) x) ≡ commentRead a (scan commentStep base (skips (suc k)) l (rest s at) at)) (sym z)
-    (sym (ap (commentRead a) (scan-end commentStep (skips k) l′ s at e)) ∙ ap (commentRead a) (scan-end commentStep (skips (suc k)) l s at e)))
-    (λ v n t.
-    let z : q ≡ n = h ∙ sym (pass-step s at v n t) in
-    subst (λ (x : ℕ). commentRead a (scan commentStep base (skips k) l′ (rest s x) x) ≡ commentRead a (scan commentStep base (skips (suc k)) l (rest s at) at)) (sym z)
-    (scan-last commentStep base (λ (st : Comments) (p : ℕ) (w : How). gotOf (MultilineComment (closedBy w)) a p) (skips k) l′ at (rest s n) n
-    ∙ ap (commentRead a) (scan-on commentStep (skips (suc k)) l s at v n t (skips k) refl)))
+module _ (k : ℕ) (s : List ℕ) (at : ℕ) where
+  comment-skip : (q : ℕ) → q ≡ passOne width (rest s at) at → commentEnd width k (rest s q) q ≡ commentEnd width (suc k) (rest s at) at
+  unfolding commentEnd commentStep
+  comment-skip q h =
+      by-step s at
+      (λ e. rw (h ∙ sym (pass-none s at e)) (sym (ap endedOf (scan-end commentStep (skips k) at s at e)) ∙ ap endedOf (scan-end commentStep (skips (suc k)) at s at e)))
+      (λ v n t.
+      rw (h ∙ sym (pass-step s at v n t))
+      (scan-last commentStep width (λ (st : Closing) (p : ℕ) (w : How). endedOf (stopAt st p p w)) (skips k) n at (rest s n) n
+      ∙ ap endedOf (scan-on commentStep (skips (suc k)) at s at v n t (skips k) refl)))
+
+-- a comment is looked for from after what it passes over on
+pub comment-untested : (c : Comments) (s : List ℕ) (at q : ℕ) → q ≡ untested c s at → commentEnd width 0 (rest s q) q ≡ commentEnd width (skipOf c) (rest s at) at
+comment-untested Crate s at q e = let one = passOne width (rest s at) at in comment-skip 0 s one q e ∙ comment-skip 1 s at one refl
+comment-untested First s at q e = rw e
 
 -- the last place counts only behind a backslash, and a closed char answers as one that ended with its label lost
 pub answer-last : (a : ℕ) (l m : Bool) (p q e : ℕ) → charAnswer a (letters l m) p e ≡ charAnswer a (letters l m) q e

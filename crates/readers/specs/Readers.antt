@@ -8,7 +8,11 @@ use Rattle.classes.specs.Classes.{isControl, isWhiteSpace}
 use Rattle.digits.specs.Digits.{isDigit}
 use Rattle.laws.specs.Bools.{both, either, pick, within}
 use Rattle.readers.specs.Rules.{Rules}
-use Rattle.readers.specs.Scan.{Act, How, before, behind, ended, full, on, scan, short}
+use Rattle.readers.specs.Scan.{Act, How, Stop, Wide, before, behind, ended, full, on, scan, short}
+use Rattle.readers.specs.declared.comments.Ended.{Ended}
+use Rattle.readers.specs.declared.reading.Comments.{Comments}
+use Rattle.readers.specs.declared.reading.Comments.the-variants.{Crate, First}
+use Rattle.text.specs.Utf8.{rest, width}
 use Rattle.token.specs.Reads.{gotOf, refusedOf}
 use Rattle.token.specs.declared.kind.Kind.{Kind}
 use Rattle.token.specs.declared.kind.Kind.the-variants.{Byte, ByteStr, Char, Ident, Label, MultilineComment, Number, Str, Underscore, Whitespace}
@@ -18,31 +22,35 @@ use Rattle.token.specs.declared.read.Read.{Read}
 abbrev pub runStep : (ℕ → Bool) → Unit {0} → ℕ → List ℕ → Act (Unit {0})
 runStep f s v cs = pick (f v) (on tt) (before tt)
 
-unfoldable pub run : Rules → (ℕ → Bool) → List ℕ → ℕ → ℕ
-run R f cs p = scan (runStep f) R tt p cs p .place
+unfoldable pub run : Wide → (ℕ → Bool) → List ℕ → ℕ → ℕ
+run w f cs p = scan (runStep f) w tt p cs p .place
 
 -- white space
-unfoldable pub whiteOf : Rules → ℕ → List ℕ → ℕ → Read
-whiteOf R a cs p = gotOf Whitespace a (run R isWhiteSpace cs p)
+unfoldable pub whiteOf : Wide → ℕ → List ℕ → ℕ → Read
+whiteOf w a cs p = gotOf Whitespace a (run w isWhiteSpace cs p)
 
 -- a line comment and the shebang stop before LF
 abbrev pub inLine : ℕ → Bool
 inLine v = not (eqb v 10)
 
-unfoldable pub lineOf : Rules → Kind → ℕ → List ℕ → ℕ → Read
-lineOf R k a cs p = gotOf k a (run R inLine cs p)
+unfoldable pub lineOf : Wide → Kind → ℕ → List ℕ → ℕ → Read
+lineOf w k a cs p = gotOf k a (run w inLine cs p)
 
--- the place behind the first of the scalars
-abbrev pub passOne : Rules → List ℕ → ℕ → ℕ
-passOne R [] p = p
-passOne R (v ∷ cs) p = p + R .wide v
+-- the place after the first of the scalars, and the place after those that a comment passes over
+abbrev pub passOne : Wide → List ℕ → ℕ → ℕ
+passOne w [] p = p
+passOne w (v ∷ cs) p = p + w v
+
+abbrev pub untested : Comments → List ℕ → ℕ → ℕ
+untested Crate s at = let q = passOne width (rest s at) at in passOne width (rest s q) q
+untested First s at = at
 
 -- a comment: so many scalars are skipped untested, and then the first `*/` closes; what nothing closes is unclosed, and goes to the end
-pub data Comments : Type 0 where
-  skips : ℕ → Comments
-  starred : Comments
+pub data Closing : Type 0 where
+  skips : ℕ → Closing
+  starred : Closing
 
-unfoldable pub commentStep : Comments → ℕ → List ℕ → Act Comments
+unfoldable pub commentStep : Closing → ℕ → List ℕ → Act Closing
 commentStep (skips (suc k)) v cs = on (skips k)
 commentStep (skips zero) v cs = pick (eqb v 42) (on starred) (on (skips 0))
 commentStep starred v cs = pick (eqb v 47) (behind starred) (pick (eqb v 42) (on starred) (on (skips 0)))
@@ -52,9 +60,15 @@ closedBy ended = false
 closedBy short = false
 closedBy full = true
 
-unfoldable pub commentOf : Rules → ℕ → List ℕ → ℕ → Read
-commentOf R a cs p =
-    let o = scan commentStep R (skips (R .skip)) p cs p in gotOf (MultilineComment (closedBy (o .how))) a (o .place)
+abbrev pub endedOf : Stop Closing → Ended
+endedOf o = record { end = o .place; closed = closedBy (o .how) }
+
+-- where it ends, and whether a close ended it; k scalars are skipped
+unfoldable pub commentEnd : Wide → ℕ → List ℕ → ℕ → Ended
+commentEnd w k cs p = endedOf (scan commentStep w (skips k) p cs p)
+
+unfoldable pub commentOf : Wide → ℕ → ℕ → List ℕ → ℕ → Read
+commentOf w k a cs p = let e = commentEnd w k cs p in gotOf (MultilineComment (e .closed)) a (e .end)
 
 -- a byte: its first scalar is not tested, behind that a quote closes and a backslash takes the scalar behind it along
 pub data Bytes : Type 0 where
@@ -78,8 +92,8 @@ byteAnswer a body l p full = gotOf Byte a p
 byteAnswer a body l p ended = refusedOf 14 a p p
 byteAnswer a body l p short = refusedOf 14 a p p
 
-unfoldable pub byteOf : Rules → ℕ → List ℕ → ℕ → Read
-byteOf R a cs p = let o = scan byteStep R fresh p cs p in byteAnswer a (o .state) (o .last) (o .place) (o .how)
+unfoldable pub byteOf : Wide → ℕ → List ℕ → ℕ → Read
+byteOf w a cs p = let o = scan byteStep w fresh p cs p in byteAnswer a (o .state) (o .last) (o .place) (o .how)
 
 -- a string or byte string: a quote closes, a backslash takes the scalar behind it along and sets the escape mark
 pub data Quoted : Type 0 where
@@ -106,15 +120,15 @@ strAnswer b a (text e) l p full = gotOf (strKind b e) a p
 strAnswer b a (text e) l p ended = refusedOf (strNumber b) a p p
 strAnswer b a (text e) l p short = refusedOf (strNumber b) a p p
 
-unfoldable pub strOf : Rules → Bool → ℕ → List ℕ → ℕ → Read
-strOf R b a cs p = let o = scan strStep R (text false) p cs p in strAnswer b a (o .state) (o .last) (o .place) (o .how)
+unfoldable pub strOf : Wide → Bool → ℕ → List ℕ → ℕ → Read
+strOf w b a cs p = let o = scan strStep w (text false) p cs p in strAnswer b a (o .state) (o .last) (o .place) (o .how)
 
 -- a word: its first letter was read already; a lone `_` is a kind of its own
 abbrev pub startsWord : Rules → ℕ → Bool
 startsWord R v = either (eqb v 95) (R .start v)
 
-unfoldable pub wordOf : Rules → ℕ → ℕ → List ℕ → ℕ → Read
-wordOf R v a cs p = let e = run R (R .continue) cs p in gotOf (pick (both (eqb v 95) (eqb e p)) Underscore Ident) a e
+unfoldable pub wordOf : Wide → (ℕ → Bool) → ℕ → ℕ → List ℕ → ℕ → Read
+wordOf w more v a cs p = let e = run w more cs p in gotOf (pick (both (eqb v 95) (eqb e p)) Underscore Ident) a e
 
 -- a number: ASCII letters, digits and `_`; once, a `.` with a digit right behind it belongs to it too
 abbrev pub inNumber : ℕ → Bool
@@ -132,8 +146,8 @@ unfoldable pub numberStep : Digits → ℕ → List ℕ → Act Digits
 numberStep integral v cs = pick (inNumber v) (on integral) (pick (both (eqb v 46) (beginsDigit cs)) (on fractional) (before integral))
 numberStep fractional v cs = pick (inNumber v) (on fractional) (before fractional)
 
-unfoldable pub numberLitOf : Rules → ℕ → List ℕ → ℕ → Read
-numberLitOf R a cs p = gotOf Number a (scan numberStep R integral p cs p .place)
+unfoldable pub numberLitOf : Wide → ℕ → List ℕ → ℕ → Read
+numberLitOf w a cs p = gotOf Number a (scan numberStep w integral p cs p .place)
 
 -- a char or a label: the first flag says that it may still be a label, the second that something was counted
 pub data Chars : Type 0 where
@@ -167,5 +181,5 @@ charAnswer a (letters true false) l p = refusedOf 13 a p p
 charAnswer a (letters false true) l p = gotOf Char a p
 charAnswer a (letters true true) l p = gotOf Label a p
 
-unfoldable pub charOf : Rules → ℕ → List ℕ → ℕ → Read
-charOf R a cs p = let o = scan charStep R (letters true false) p cs p in charAnswer a (o .state) (o .last) (o .place)
+unfoldable pub charOf : Wide → ℕ → List ℕ → ℕ → Read
+charOf w a cs p = let o = scan charStep w (letters true false) p cs p in charAnswer a (o .state) (o .last) (o .place)

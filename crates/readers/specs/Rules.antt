@@ -2,6 +2,9 @@
 use Prim.Native.Nat.{ℕ}
 use mathlib.Core.Bool.{Bool}
 use Rattle.classes.specs.Classes.{isXidContinue, isXidStart}
+use Rattle.readers.specs.declared.reading.Comments.{Comments}
+use Rattle.readers.specs.declared.reading.Comments.the-variants.{Crate, First}
+use Rattle.readers.specs.declared.reading.Reading.{Reading}
 use Rattle.text.specs.Utf8.{width}
 
 pub record Rules : Type 0 where
@@ -13,6 +16,18 @@ pub record Rules : Type 0 where
   pub start : ℕ → Bool
   pub continue : ℕ → Bool
 
--- document 01: byte places, two scalars skipped, XID up to U+024F
-abbrev pub base : Rules
-base = record { wide = width; skip = 2; start = isXidStart; continue = isXidContinue }
+-- document 01: two scalars are skipped after `/*`; document 02, A3: none
+abbrev pub skipOf : Comments → ℕ
+skipOf Crate = 2
+skipOf First = 0
+
+-- byte places, XID up to U+024F, and what the caller names
+abbrev pub rulesOf : Reading → Rules
+rulesOf g = record { wide = width; skip = skipOf (g .comments); start = isXidStart; continue = isXidContinue }
+
+-- the two readings: rune's, and the one in which the first close ends a comment
+abbrev pub rune : Reading
+rune = record { comments = Crate }
+
+abbrev pub firstClose : Reading
+firstClose = record { comments = First }

@@ -1,7 +1,10 @@
 -- One scanner for every reader that takes a scalar at a time: a reader is a step on a small state, and an answer made of where and why it stopped.
 use Prim.Native.Nat.{ℕ, _+_}
 use mathlib.Core.List.{List, [], _∷_}
-use Rattle.readers.specs.Rules.{Rules}
+
+-- how far a scalar moves the place
+abbrev pub Wide : Type 0
+Wide = ℕ → ℕ
 
 -- what a scalar does: the scan goes on, stops before it, or stops behind it; each with the state then
 pub data Act (S : Type 0) : Type 0 where
@@ -27,11 +30,11 @@ module _ {S : Type 0} where
   stopAt s l p h = record { state = s; last = l; place = p; how = h }
 
   -- a step sees the state, the scalar, and the scalars behind it
-  unfoldable pub scan : (S → ℕ → List ℕ → Act S) → Rules → S → ℕ → List ℕ → ℕ → Stop S
-  scan step R s l [] p = stopAt s l p ended
-  scan step R s l (v ∷ cs) p =
+  unfoldable pub scan : (S → ℕ → List ℕ → Act S) → Wide → S → ℕ → List ℕ → ℕ → Stop S
+  scan step w s l [] p = stopAt s l p ended
+  scan step w s l (v ∷ cs) p =
       elim (step s v cs) [
-        | on s′ ↦ scan step R s′ p cs (p + R .wide v)
+        | on s′ ↦ scan step w s′ p cs (p + w v)
         | before s′ ↦ stopAt s′ l p short
-        | behind s′ ↦ stopAt s′ p (p + R .wide v) full
+        | behind s′ ↦ stopAt s′ p (p + w v) full
       ]

@@ -1,5 +1,7 @@
 // Answers framed inputs as rust/oracle does, so that our answers can be compared with the Rust's: mode `L`, a source to list.
 // What it must print is what the Rust answered: `stdin` and `stdout` are rust/recorded/list.frames and list.answers.
+use readers::Comments;
+use readers::Reading;
 ghost use Prim.Native.Nat.{_≤_, _<_};
 
 enum Frame {
@@ -44,7 +46,10 @@ fn skip(source: &mut [u8], count: usize) {
 
 fn list_payload(source: &mut [u8], out: &mut [u8], waiting: usize) -> usize {
     let got = io::read_full(0, source);
-    printing::list(&source[..got], out, waiting)
+    let reading = Reading {
+        comments: Comments::Crate,
+    };
+    printing::list(&source[..got], reading, out, waiting)
 }
 
 fn least(a: usize, b: usize) -> usize

@@ -2,10 +2,12 @@
 // print is what the Rust printed: `stdin` and `stdout` are rust/recorded/look.frames and look.answers.
 mod calls;
 mod lines;
-
 ghost use Prim.Native.Nat.{_≤_, _<_};
 ghost use mathlib.Core.Path.{_≡_};
 ghost use lib.ListN.{length};
+
+use readers::Comments;
+use readers::Reading;
 use listing::Listed;
 
 // The bytes of a frame's source and of its calls, and whether white space is kept.
@@ -95,7 +97,10 @@ fn answer_script(
     out: &mut [u8],
     waiting: usize,
 ) -> usize {
-    match listing::list(source, list) {
+    let reading = Reading {
+        comments: Comments::Crate,
+    };
+    match listing::list(source, reading, list) {
         Listed::Stopped { count: _, refusal } => {
             let span = refusal.span;
             lines::put_refused(out, waiting, refusal.number, span.start, span.end)

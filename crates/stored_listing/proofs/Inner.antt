@@ -15,9 +15,10 @@ use Rattle.numbers.specs.Kinds.{numberOf}
 use Rattle.operators.proofs.Ends.{by-length}
 use Rattle.operators.specs.Operators.{findOne, findThree, findTwo, foundAt, lookOne, lookThree, lookTwo, ones, operatorOf, threes, twos}
 use Rattle.operators.specs.declared.Operator.the-variants.{Found}
-use Rattle.readers.specs.Readers.{Bytes, Chars, Quoted, body, broken, byteAnswer, byteOf, byteStep, charAnswer, charOf, charStep, closedBy, commentOf, commentStep, control, escape, fresh, letters, lineOf, numberLitOf, run, shut, skips, slash, slashed, strAnswer, strOf, strStep, text, whiteOf, wordOf}
-use Rattle.readers.specs.Rules.{Rules, base}
+use Rattle.readers.specs.Readers.{Bytes, Chars, Quoted, body, broken, byteAnswer, byteOf, byteStep, charAnswer, charOf, charStep, closedBy, commentEnd, commentOf, commentStep, control, escape, fresh, letters, lineOf, numberLitOf, run, shut, skips, slash, slashed, strAnswer, strOf, strStep, text, whiteOf, wordOf}
+use Rattle.readers.specs.Rules.{Rules, rulesOf}
 use Rattle.readers.specs.Scan.{How, ended, full, scan, short}
+use Rattle.readers.specs.declared.reading.Reading.{Reading}
 use Rattle.templates.proofs.Landing.{deepOf, with-deep}
 use Rattle.templates.specs.Body.{bodyOf, goOn, templateOf, tokenOf}
 use Rattle.text.specs.Utf8.{rest}
@@ -83,20 +84,20 @@ unfolding findOne ones numberOf allOne
 one-inner v p k e h = look-one ones v k refl (found-known (lookOne ones v) p k e h)
 
 module _ (R : Rules) where
-  two-inner : (v : ℕ) (cs : List ℕ) (p : ℕ) (k : Kind) (e : ℕ) → findTwo R v cs p ≡ Found k e → isInner k ≡ true
+  two-inner : (v : ℕ) (cs : List ℕ) (p : ℕ) (k : Kind) (e : ℕ) → findTwo (R .wide) v cs p ≡ Found k e → isInner k ≡ true
   unfolding findTwo twos numberOf allTwo
   two-inner v [] p k e h = never (cc)
   two-inner v (w ∷ cs) p k e h = look-two twos v w k refl (found-known (lookTwo twos v w) (p + R .wide w) k e h)
 
-  three-inner : (v : ℕ) (cs : List ℕ) (p : ℕ) (k : Kind) (e : ℕ) → findThree R v cs p ≡ Found k e → isInner k ≡ true
+  three-inner : (v : ℕ) (cs : List ℕ) (p : ℕ) (k : Kind) (e : ℕ) → findThree (R .wide) v cs p ≡ Found k e → isInner k ≡ true
   unfolding findThree threes numberOf allThree
   three-inner v [] p k e h = never (cc)
   three-inner v (w ∷ []) p k e h = never (cc)
   three-inner v (w ∷ (x ∷ cs)) p k e h = look-three threes v w x k refl (found-known (lookThree threes v w x) (p + R .wide w + R .wide x) k e h)
 
-  operator-inner : (v : ℕ) (cs : List ℕ) (p : ℕ) (k : Kind) (e : ℕ) → operatorOf R v cs p ≡ Found k e → isInner k ≡ true
+  operator-inner : (v : ℕ) (cs : List ℕ) (p : ℕ) (k : Kind) (e : ℕ) → operatorOf (R .wide) v cs p ≡ Found k e → isInner k ≡ true
   unfolding operatorOf
-  operator-inner v cs p k e h = by-length R (findThree R v cs p) (findTwo R v cs p) (findOne v p) k e h (three-inner v cs p k e) (two-inner v cs p k e) (one-inner v p k e)
+  operator-inner v cs p k e h = by-length R (findThree (R .wide) v cs p) (findTwo (R .wide) v cs p) (findOne v p) k e h (three-inner v cs p k e) (two-inner v cs p k e) (one-inner v p k e)
 
   -- the readers
   abbrev InnerAt : (List ℕ → ℕ → Read) → Type 0
@@ -147,15 +148,15 @@ module _ (R : Rules) where
   word-inner false = refl
 
   first-inner : (t : Deep) → ((a : ℕ) → InnerAt (t a)) → (v a : ℕ) (cs : List ℕ) (p : ℕ) → Inner (firstOf R t v a cs p)
-  unfolding whiteOf lineOf commentOf byteOf strOf wordOf numberLitOf charOf numberOf
+  unfolding whiteOf lineOf commentOf commentEnd byteOf strOf wordOf numberLitOf charOf numberOf
   first-inner t d v a cs p =
-      let str : (b : Bool) → InnerAt (strOf R b a) = λ b ds q. let o = scan strStep R (text false) q ds q in str-inner b a (o .state) (o .last) (o .place) (o .how) in
-      first-cases R t v a cs p (λ r. Inner r) refl (λ h. behind-inner (lineOf R Comment a) (λ ds q. refl) cs p)
-      (λ h. behind-inner (commentOf R a) (λ ds q. comment-inner (closedBy (scan commentStep R (skips (R .skip)) q ds q .how))) cs p)
-      (λ h. behind-inner (byteOf R a) (λ ds q. let o = scan byteStep R fresh q ds q in byte-inner a (o .state) (o .last) (o .place) (o .how)) cs p)
-      (λ h. behind-inner (strOf R true a) (str true) cs p) (str false cs p) (λ k e h. operator-inner v cs p k e h)
-      (word-inner (both (eqb v 95) (eqb (run R (R .continue) cs p) p))) refl
-      (let o = scan charStep R (letters true false) p cs p in char-inner a (o .state) (o .last) (o .place)) (d a cs p) tt
+      let str : (b : Bool) → InnerAt (strOf (R .wide) b a) = λ b ds q. let o = scan strStep (R .wide) (text false) q ds q in str-inner b a (o .state) (o .last) (o .place) (o .how) in
+      first-cases R t v a cs p (λ r. Inner r) refl (λ h. behind-inner (lineOf (R .wide) Comment a) (λ ds q. refl) cs p)
+      (λ h. behind-inner (commentOf (R .wide) (R .skip) a) (λ ds q. comment-inner (closedBy (scan commentStep (R .wide) (skips (R .skip)) q ds q .how))) cs p)
+      (λ h. behind-inner (byteOf (R .wide) a) (λ ds q. let o = scan byteStep (R .wide) fresh q ds q in byte-inner a (o .state) (o .last) (o .place) (o .how)) cs p)
+      (λ h. behind-inner (strOf (R .wide) true a) (str true) cs p) (str false cs p) (λ k e h. operator-inner v cs p k e h)
+      (word-inner (both (eqb v 95) (eqb (run (R .wide) (R .continue) cs p) p))) refl
+      (let o = scan charStep (R .wide) (letters true false) p cs p in char-inner a (o .state) (o .last) (o .place)) (d a cs p) tt
 
   on-inner : (a : ℕ) (r : Read) (go : ℕ → Read) → ((t : ℕ) → Inner (go t)) → Inner (goOn a r go)
   on-inner a (Got k) go g = g (k .span .end)
@@ -187,7 +188,7 @@ module _ (R : Rules) where
   unfolding nextOf lineOf numberOf
   next-inner n v cs p =
       split (both (eqb p 0) (isShebang (v ∷ cs)))
-      (λ e. rw e (behind-inner (lineOf R Shebang p) (λ ds q. refl) cs (p + R .wide v)))
+      (λ e. rw e (behind-inner (lineOf (R .wide) Shebang p) (λ ds q. refl) cs (p + R .wide v)))
       (λ e. rw e (close-inner n (tokenOf R 64 (v ∷ cs) p) (token-inner 64 v cs p)))
 
 -- and so of all tokens
@@ -208,6 +209,6 @@ tokens-inner R n t (v ∷ cs) p =
     split (ltb p t) (λ h. rw (h, tokensOf) (tokens-inner R n t cs (p + R .wide v)))
     (λ h. rw (h, tokensOf) (each-inner (nextOf R n (v ∷ cs) p) (λ t′. tokensOf R n t′ cs (p + R .wide v)) (next-inner R n v cs p) (λ t′. tokens-inner R n t′ cs (p + R .wide v))))
 
-pub all-inner : (s : List ℕ) (p : ℕ) → AllInner (tokensAt base s p)
+pub all-inner : (g : Reading) (s : List ℕ) (p : ℕ) → AllInner (tokensAt (rulesOf g) s p)
 unfolding tokensAt
-all-inner s p = tokens-inner base (length s) 0 (rest s p) p
+all-inner g s p = tokens-inner (rulesOf g) (length s) 0 (rest s p) p

@@ -5,9 +5,9 @@ B = dict(M, one='(step-one $s$ $at$ (@first .given .0 .0) (@first .given .0 .1 .
          ends='(step-none $s$ $p$ (sym (@scalar-at2 .ensures) ∙ @enum-told2 .given .1))',
          two='(step-one $s$ $n$ (@after .given .0 .0) (@after .given .0 .1 .0) (sym (@scalar-at3 .ensures) ∙ @after .given .1))',
          read='(λ (o : Stop Bytes). byteAnswer $a$ (o .state) (o .last) (o .place) (o .how))',
-         whole='(scan byteStep base fresh $at$ (rest $s$ $at$) $at$)')
+         whole='(scan byteStep width fresh $at$ (rest $s$ $at$) $at$)')
 fill('next_lit_byte', {
-    'Inv-loop': 'Goes byteStep body s p (scan byteStep base fresh at (rest s at) at)', 'μ-loop': 'length s - p',
+    'Inv-loop': 'Goes byteStep body s p (scan byteStep width fresh at (rest s at) at)', 'μ-loop': 'length s - p',
     'returns': ('byteOf', '@refused .ensures ∙ ap $read$ (scan-end byteStep fresh $at$ $s$ $at$ (step-none $s$ $at$ (sym (@scalar-at .ensures) ∙ @enum-told .given .1)))'),
     'loop-holds': ('byteStep', 'goes-on byteStep fresh $s$ $at$ $whole$ ($at$, refl) _ _ $one$ body refl'),
     'returns-2': ('byteOf', '@refused2 .ensures ∙ ap $read$ (goes-end byteStep body $s$ $p$ $whole$ $g$ $ends$)'),
@@ -26,9 +26,9 @@ Q = dict(M, b='(@Start .args .bytes)', e='(@loop .escaped)', st='(text $e$)',
          ends='(step-none $s$ $p$ (sym (@scalar-at .ensures) ∙ @enum-told .given .1))',
          two='(step-one $s$ $n$ (@after .given .0 .0) (@after .given .0 .1 .0) (sym (@scalar-at2 .ensures) ∙ @after .given .1))',
          read='(λ (o : Stop Quoted). strAnswer $b$ $a$ (o .state) (o .last) (o .place) (o .how))',
-         whole='(scan strStep base (text false) $at$ (rest $s$ $at$) $at$)')
+         whole='(scan strStep width (text false) $at$ (rest $s$ $at$) $at$)')
 fill('next_str', {
-    'Inv-loop': 'Goes strStep (text escaped) s p (scan strStep base (text false) at (rest s at) at)', 'μ-loop': 'length s - p',
+    'Inv-loop': 'Goes strStep (text escaped) s p (scan strStep width (text false) at (rest s at) at)', 'μ-loop': 'length s - p',
     'loop-holds': '($at$, refl)',
     'returns': ('strOf', '@refused .ensures ∙ ap (λ (k : ℕ). refusedOf k $a$ $p$ $p$) (@str-number .ensures) ∙ ap $read$ (goes-end strStep $st$ $s$ $p$ $whole$ $g$ $ends$)'),
     'returns-2': ('strOf', '@got .ensures ∙ ap (λ (k : Kind). gotOf k $a$ $n$) (@str-kind .ensures) ∙ ap $read$ (goes-behind strStep $st$ $s$ $p$ $whole$ $g$ $v$ $n$ $step$ $st$ (str-close $e$ $v$ $cs$ (@if1 .taken)))'),

@@ -9,11 +9,10 @@ use token::refusal::UNTERMINATED_BYTE_STR_LIT;
 use token::refusal::UNTERMINATED_STR_LIT;
 ghost use mathlib.Core.Path.{_≡_};
 ghost use Rattle.readers.specs.Readers.{byteOf, strKind, strNumber, strOf};
-ghost use Rattle.readers.specs.Rules.{base};
-ghost use Rattle.text.specs.Utf8.{rest};
+ghost use Rattle.text.specs.Utf8.{rest, width};
 
 pub fn next_lit_byte(s: &[u8], start: usize, at: usize) -> Read
-    ensures { λ r. ⌜ r ≡ byteOf base start (rest (now (s .entry)) at) at ⌝ }
+    ensures { λ r. ⌜ r ≡ byteOf width start (rest (now (s .entry)) at) at ⌝ }
 {
     let Scalar::One {
         value: _,
@@ -70,7 +69,7 @@ fn str_number(bytes: bool) -> u32
 }
 
 pub fn next_str(s: &[u8], bytes: bool, start: usize, at: usize) -> Read
-    ensures { λ r. ⌜ r ≡ strOf base bytes start (rest (now (s .entry)) at) at ⌝ }
+    ensures { λ r. ⌜ r ≡ strOf width bytes start (rest (now (s .entry)) at) at ⌝ }
 {
     let mut p = at;
     let mut escaped = false;

@@ -13,7 +13,8 @@ use Rattle.laws.proofs.Cases.{split}
 use Rattle.operators.proofs.Ends.{operator-lands}
 use Rattle.readers.proofs.Lands.{Lands, byte-lands, char-lands, comment-lands, lands-here, lands-le, line-lands, number-lands, str-lands, white-lands, word-lands}
 use Rattle.readers.specs.Readers.{byteOf, commentOf, lineOf, strOf}
-use Rattle.readers.specs.Rules.{Rules, base}
+use Rattle.readers.specs.Rules.{Rules, rulesOf}
+use Rattle.readers.specs.declared.reading.Reading.{Reading}
 use Rattle.templates.specs.Body.{bodyOf, down, goOn, templateOf, tokenOf, tooDeep, turnOf, up}
 use Rattle.text.proofs.Decode.{rest-tail, width-pos}
 use Rattle.text.specs.Utf8.{rest, width}
@@ -36,8 +37,8 @@ module _ (R : Rules) where
   pub first-lands : (t : Deep) → DeepLands t → (v a : ℕ) (cs : List ℕ) (p : ℕ) → Lands R cs p (reachedOf (firstOf R t v a cs p))
   first-lands t d v a cs p =
       first-cases R t v a cs p (λ r. Lands R cs p (reachedOf r)) (white-lands R a cs p)
-      (λ h. behind-lands (lineOf R Comment a) (λ ds q. line-lands R a ds q Comment) cs p) (λ h. behind-lands (commentOf R a) (comment-lands R a) cs p)
-      (λ h. behind-lands (byteOf R a) (byte-lands R a) cs p) (λ h. behind-lands (strOf R true a) (λ ds q. str-lands R a ds q true) cs p)
+      (λ h. behind-lands (lineOf (R .wide) Comment a) (λ ds q. line-lands R a ds q Comment) cs p) (λ h. behind-lands (commentOf (R .wide) (R .skip) a) (comment-lands R a) cs p)
+      (λ h. behind-lands (byteOf (R .wide) a) (byte-lands R a) cs p) (λ h. behind-lands (strOf (R .wide) true a) (λ ds q. str-lands R a ds q true) cs p)
       (str-lands R a cs p false) (λ k e h. operator-lands R v cs p k e h) (word-lands R a cs p v) (number-lands R a cs p) (char-lands R a cs p) (d a cs p)
       (lands-here R cs p)
 
@@ -104,12 +105,12 @@ module _ (R : Rules) where
   token-consumes d v cs p = rw (with-deep d (v ∷ cs) p) (first-lands (deepOf d) (deep-lands d) v p cs (p + R .wide v))
 
 -- at a place of a source: what lies before r is passed over
-pub body-skip : (next : List ℕ → ℕ → Read) (a : ℕ) (s cs : List ℕ) (p r l : ℕ) → cs ≡ rest s p → Lands base cs p r → bodyOf base next a r cs p l ≡ bodyOf base next a 0 (rest s r) r l
+pub body-skip : (g : Reading) (next : List ℕ → ℕ → Read) (a : ℕ) (s cs : List ℕ) (p r l : ℕ) → cs ≡ rest s p → Lands (rulesOf g) cs p r → bodyOf (rulesOf g) next a r cs p l ≡ bodyOf (rulesOf g) next a 0 (rest s r) r l
 unfolding bodyOf
-body-skip next a s [] p r l e k = subst (λ (x : ℕ). bodyOf base next a x [] p l ≡ bodyOf base next a 0 (rest s x) x l) k (rw (← e))
-body-skip next a s (v ∷ cs) p r l e (inl k) =
-    subst (λ (x : ℕ). bodyOf base next a x (v ∷ cs) p l ≡ bodyOf base next a 0 (rest s x) x l) k (rw (← e) (body-arrived base next a (v ∷ cs) p l))
-body-skip next a s (v ∷ cs) p r l e (inr k) =
-    let b = lands-le base cs (p + width v) r k in
+body-skip g next a s [] p r l e k = subst (λ (x : ℕ). bodyOf (rulesOf g) next a x [] p l ≡ bodyOf (rulesOf g) next a 0 (rest s x) x l) k (rw (← e))
+body-skip g next a s (v ∷ cs) p r l e (inl k) =
+    subst (λ (x : ℕ). bodyOf (rulesOf g) next a x (v ∷ cs) p l ≡ bodyOf (rulesOf g) next a 0 (rest s x) x l) k (rw (← e) (body-arrived (rulesOf g) next a (v ∷ cs) p l))
+body-skip g next a s (v ∷ cs) p r l e (inr k) =
+    let b = lands-le (rulesOf g) cs (p + width v) r k in
     let w = width-pos v in
-    rw (lt-ltb p r (omega arith), bodyOf) (body-skip next a s cs (p + width v) r l (rest-tail s p v cs e) k)
+    rw (lt-ltb p r (omega arith), bodyOf) (body-skip g next a s cs (p + width v) r l (rest-tail s p v cs e) k)

@@ -9,7 +9,8 @@ use borrow.Author.Tests.{eq-eqb, le-ltb, ne-eqb}
 use Rattle.choice.proofs.Choice.{first-deep, first-plain}
 use Rattle.choice.specs.Rule.{firstOf, noTemplate, tokenWith}
 use Rattle.readers.proofs.Lands.{Lands, lands-le, lands-room}
-use Rattle.readers.specs.Rules.{base}
+use Rattle.readers.specs.Rules.{rulesOf}
+use Rattle.readers.specs.declared.reading.Reading.{Reading}
 use Rattle.templates.proofs.Landing.{body-skip, deepOf, token-lands, with-deep}
 use Rattle.templates.specs.Body.{bodyOf, down, goOn, templateOf, tokenOf, turnOf, up}
 use Rattle.text.proofs.Decode.{Step}
@@ -21,92 +22,92 @@ use Rattle.token.specs.declared.read.Read.the-variants.{Got, Refused}
 use Rattle.token.specs.declared.read.Refusal.{Refusal}
 use Rattle.token.specs.declared.read.Token.{Token}
 
-pub deep-none : (d a : ℕ) (cs : List ℕ) (p : ℕ) → d ≡ 0 → refusedOf 19 a p p ≡ deepOf base d a cs p
+pub deep-none : (g : Reading) (d a : ℕ) (cs : List ℕ) (p : ℕ) → d ≡ 0 → refusedOf 19 a p p ≡ deepOf (rulesOf g) d a cs p
 unfolding deepOf
-deep-none zero a cs p h = refl
-deep-none (suc d) a cs p h = absurd (omega arith)
+deep-none g zero a cs p h = refl
+deep-none g (suc d) a cs p h = absurd (omega arith)
 
-pub deep-some : (d a : ℕ) (cs : List ℕ) (p : ℕ) → (d ≡ 0 → ⊥) → templateOf base (tokenOf base (d - 1)) a cs p ≡ deepOf base d a cs p
+pub deep-some : (g : Reading) (d a : ℕ) (cs : List ℕ) (p : ℕ) → (d ≡ 0 → ⊥) → templateOf (rulesOf g) (tokenOf (rulesOf g) (d - 1)) a cs p ≡ deepOf (rulesOf g) d a cs p
 unfolding deepOf
-deep-some zero a cs p h = absurd (h refl)
-deep-some (suc d) a cs p h = let e : suc d - 1 ≡ d = omega arith in ap (λ (k : ℕ). templateOf base (tokenOf base k) a cs p) e
+deep-some g zero a cs p h = absurd (h refl)
+deep-some g (suc d) a cs p h = let e : suc d - 1 ≡ d = omega arith in ap (λ (k : ℕ). templateOf (rulesOf g) (tokenOf (rulesOf g) k) a cs p) e
 
-module _ (d : ℕ) (s : List ℕ) (p : ℕ) where
-  pub token-end : rest s p ≡ [] → gotOf Eof p p ≡ tokenOf base d (rest s p) p
+module _ (g : Reading) (d : ℕ) (s : List ℕ) (p : ℕ) where
+  pub token-end : rest s p ≡ [] → gotOf Eof p p ≡ tokenOf (rulesOf g) d (rest s p) p
   unfolding tokenWith
-  token-end h = rw (with-deep base d (rest s p) p, h)
+  token-end h = rw (with-deep (rulesOf g) d (rest s p) p, h)
 
   module _ (v n : ℕ) (t : Step s p v n) where
-    token-turn : firstOf base (deepOf base d) v p (rest s n) n ≡ tokenOf base d (rest s p) p
+    token-turn : firstOf (rulesOf g) (deepOf (rulesOf g) d) v p (rest s n) n ≡ tokenOf (rulesOf g) d (rest s p) p
     unfolding tokenWith
-    token-turn = sym (with-deep base d (rest s p) p ∙ rw (t .here) (ap (firstOf base (deepOf base d) v p (rest s n)) (sym (t .next))))
+    token-turn = sym (with-deep (rulesOf g) d (rest s p) p ∙ rw (t .here) (ap (firstOf (rulesOf g) (deepOf (rulesOf g) d) v p (rest s n)) (sym (t .next))))
 
-    pub token-plain : (v ≡ 96 → ⊥) → firstOf base noTemplate v p (rest s n) n ≡ tokenOf base d (rest s p) p
-    token-plain h = first-plain base noTemplate (deepOf base d) v p (rest s n) n h ∙ token-turn
+    pub token-plain : (v ≡ 96 → ⊥) → firstOf (rulesOf g) noTemplate v p (rest s n) n ≡ tokenOf (rulesOf g) d (rest s p) p
+    token-plain h = first-plain (rulesOf g) noTemplate (deepOf (rulesOf g) d) v p (rest s n) n h ∙ token-turn
 
-    pub token-deep : v ≡ 96 → deepOf base d p (rest s n) n ≡ tokenOf base d (rest s p) p
-    token-deep h = first-deep (deepOf base d) v p (rest s n) n h ∙ token-turn
+    pub token-deep : v ≡ 96 → deepOf (rulesOf g) d p (rest s n) n ≡ tokenOf (rulesOf g) d (rest s p) p
+    token-deep h = first-deep g (deepOf (rulesOf g) d) v p (rest s n) n h ∙ token-turn
 
 -- one less, from what the wrapping subtraction promises
 pub down-is : (l r : ℕ) → l < 4294967296 → r < 4294967296 → (r + 1) % 4294967296 ≡ l → r ≡ down l
 down-is l r h k e = omega arith
 
-module _ (next : List ℕ → ℕ → Read) (a : ℕ) (s : List ℕ) (p l : ℕ) where
-  pub body-end : rest s p ≡ [] → gotOf (Template false) a p ≡ bodyOf base next a 0 (rest s p) p l
+module _ (g : Reading) (next : List ℕ → ℕ → Read) (a : ℕ) (s : List ℕ) (p l : ℕ) where
+  pub body-end : rest s p ≡ [] → gotOf (Template false) a p ≡ bodyOf (rulesOf g) next a 0 (rest s p) p l
   unfolding bodyOf
   body-end h = rw h
 
   module _ (v n : ℕ) (t : Step s p v n) where
-    body-turn : bodyOf base next a 0 (rest s p) p l ≡ turnOf next a v (rest s n) n l (λ t′ l′. bodyOf base next a t′ (rest s n) n l′)
+    body-turn : bodyOf (rulesOf g) next a 0 (rest s p) p l ≡ turnOf next a v (rest s n) n l (λ t′ l′. bodyOf (rulesOf g) next a t′ (rest s n) n l′)
     unfolding bodyOf
-    body-turn = rw (t .here) (rw (le-ltb p 0 (omega arith), bodyOf) (ap (λ (q : ℕ). turnOf next a v (rest s n) q l (λ t′ l′. bodyOf base next a t′ (rest s n) q l′)) (sym (t .next))))
+    body-turn = rw (t .here) (rw (le-ltb p 0 (omega arith), bodyOf) (ap (λ (q : ℕ). turnOf next a v (rest s n) q l (λ t′ l′. bodyOf (rulesOf g) next a t′ (rest s n) q l′)) (sym (t .next))))
 
-    pub body-close : v ≡ 96 → l ≡ 0 → gotOf (Template true) a n ≡ bodyOf base next a 0 (rest s p) p l
+    pub body-close : v ≡ 96 → l ≡ 0 → gotOf (Template true) a n ≡ bodyOf (rulesOf g) next a 0 (rest s p) p l
     unfolding turnOf
     body-close h k = rw body-turn (rw (eq-eqb v 96 h, eq-eqb l 0 k, turnOf))
 
-    pub body-within : v ≡ 96 → (l ≡ 0 → ⊥) → bodyOf base next a 0 (rest s n) n l ≡ bodyOf base next a 0 (rest s p) p l
+    pub body-within : v ≡ 96 → (l ≡ 0 → ⊥) → bodyOf (rulesOf g) next a 0 (rest s n) n l ≡ bodyOf (rulesOf g) next a 0 (rest s p) p l
     unfolding turnOf
     body-within h k = rw body-turn (rw (eq-eqb v 96 h, ne-eqb l 0 k, turnOf))
 
-    pub body-up : v ≡ 123 → bodyOf base next a 0 (rest s n) n (up l) ≡ bodyOf base next a 0 (rest s p) p l
+    pub body-up : v ≡ 123 → bodyOf (rulesOf g) next a 0 (rest s n) n (up l) ≡ bodyOf (rulesOf g) next a 0 (rest s p) p l
     unfolding turnOf
     body-up h = rw body-turn (rw (ne-eqb v 96 (omega arith), eq-eqb v 123 h, turnOf))
 
-    pub body-down : v ≡ 125 → bodyOf base next a 0 (rest s n) n (down l) ≡ bodyOf base next a 0 (rest s p) p l
+    pub body-down : v ≡ 125 → bodyOf (rulesOf g) next a 0 (rest s n) n (down l) ≡ bodyOf (rulesOf g) next a 0 (rest s p) p l
     unfolding turnOf
     body-down h = rw body-turn (rw (ne-eqb v 96 (omega arith), ne-eqb v 123 (omega arith), eq-eqb v 125 h, turnOf))
 
-    pub body-other : (v ≡ 96 → ⊥) → (v ≡ 123 → ⊥) → (v ≡ 125 → ⊥) → (v ≡ 92 → ⊥) → bodyOf base next a 0 (rest s n) n l ≡ bodyOf base next a 0 (rest s p) p l
+    pub body-other : (v ≡ 96 → ⊥) → (v ≡ 123 → ⊥) → (v ≡ 125 → ⊥) → (v ≡ 92 → ⊥) → bodyOf (rulesOf g) next a 0 (rest s n) n l ≡ bodyOf (rulesOf g) next a 0 (rest s p) p l
     unfolding turnOf
     body-other h i j k = rw body-turn (rw (ne-eqb v 96 h, ne-eqb v 123 i, ne-eqb v 125 j, ne-eqb v 92 k, turnOf))
 
-    pub body-token : v ≡ 92 → goOn a (next (rest s n) n) (λ r. bodyOf base next a r (rest s n) n l) ≡ bodyOf base next a 0 (rest s p) p l
+    pub body-token : v ≡ 92 → goOn a (next (rest s n) n) (λ r. bodyOf (rulesOf g) next a r (rest s n) n l) ≡ bodyOf (rulesOf g) next a 0 (rest s p) p l
     unfolding turnOf
     body-token h = rw body-turn (rw (ne-eqb v 96 (omega arith), ne-eqb v 123 (omega arith), ne-eqb v 125 (omega arith), eq-eqb v 92 h, turnOf))
 
 -- behind a token r that a backslash at p read, in a template within which d more may open
-module _ (d a : ℕ) (s : List ℕ) (p l v n : ℕ) (t : Step s p v n) (h : v ≡ 92) (r : Read) (er : r ≡ tokenOf base d (rest s n) n) where
-  inner-lands : Lands base (rest s n) n (reachedOf r)
-  inner-lands = rw er (token-lands base d (rest s n) n)
+module _ (g : Reading) (d a : ℕ) (s : List ℕ) (p l v n : ℕ) (t : Step s p v n) (h : v ≡ 92) (r : Read) (er : r ≡ tokenOf (rulesOf g) d (rest s n) n) where
+  inner-lands : Lands (rulesOf g) (rest s n) n (reachedOf r)
+  inner-lands = rw er (token-lands (rulesOf g) d (rest s n) n)
 
   pub reached-past : p < reachedOf r
-  reached-past = let k = lands-le base (rest s n) n (reachedOf r) inner-lands in let q = t .past in omega arith
+  reached-past = let k = lands-le (rulesOf g) (rest s n) n (reachedOf r) inner-lands in let q = t .past in omega arith
 
   pub reached-room : reachedOf r ≤ length s
-  reached-room = lands-room s (rest s n) n (reachedOf r) refl (t .room) inner-lands
+  reached-room = lands-room g s (rest s n) n (reachedOf r) refl (t .room) inner-lands
 
-  inner-on : goOn a r (λ q. bodyOf base (tokenOf base d) a q (rest s n) n l) ≡ bodyOf base (tokenOf base d) a 0 (rest s p) p l
-  inner-on = rw er (body-token (tokenOf base d) a s p l v n t h)
+  inner-on : goOn a r (λ q. bodyOf (rulesOf g) (tokenOf (rulesOf g) d) a q (rest s n) n l) ≡ bodyOf (rulesOf g) (tokenOf (rulesOf g) d) a 0 (rest s p) p l
+  inner-on = rw er (body-token g (tokenOf (rulesOf g) d) a s p l v n t h)
 
-  inner-go : (q : ℕ) → reachedOf r ≡ q → bodyOf base (tokenOf base d) a q (rest s n) n l ≡ bodyOf base (tokenOf base d) a 0 (rest s q) q l
-  inner-go q e = body-skip (tokenOf base d) a s (rest s n) n q l refl (subst (λ (x : ℕ). Lands base (rest s n) n x) e inner-lands)
+  inner-go : (q : ℕ) → reachedOf r ≡ q → bodyOf (rulesOf g) (tokenOf (rulesOf g) d) a q (rest s n) n l ≡ bodyOf (rulesOf g) (tokenOf (rulesOf g) d) a 0 (rest s q) q l
+  inner-go q e = body-skip g (tokenOf (rulesOf g) d) a s (rest s n) n q l refl (subst (λ (x : ℕ). Lands (rulesOf g) (rest s n) n x) e inner-lands)
 
-  pub after-got : (k : Token) → r ≡ Got k → bodyOf base (tokenOf base d) a 0 (rest s (k .span .end)) (k .span .end) l ≡ bodyOf base (tokenOf base d) a 0 (rest s p) p l
+  pub after-got : (k : Token) → r ≡ Got k → bodyOf (rulesOf g) (tokenOf (rulesOf g) d) a 0 (rest s (k .span .end)) (k .span .end) l ≡ bodyOf (rulesOf g) (tokenOf (rulesOf g) d) a 0 (rest s p) p l
   after-got k e = sym (inner-go (k .span .end) (rw e)) ∙ (rw e at inner-on)
 
-  pub after-refused : (k : Refusal) → r ≡ Refused k → (k .number ≡ 19 → ⊥) → bodyOf base (tokenOf base d) a 0 (rest s (k .reached)) (k .reached) l ≡ bodyOf base (tokenOf base d) a 0 (rest s p) p l
+  pub after-refused : (k : Refusal) → r ≡ Refused k → (k .number ≡ 19 → ⊥) → bodyOf (rulesOf g) (tokenOf (rulesOf g) d) a 0 (rest s (k .reached)) (k .reached) l ≡ bodyOf (rulesOf g) (tokenOf (rulesOf g) d) a 0 (rest s p) p l
   after-refused k e f = sym (inner-go (k .reached) (rw e)) ∙ (rw (e, ne-eqb (k .number) 19 f, goOn) at inner-on)
 
-  pub after-deep : (k : Refusal) → r ≡ Refused k → k .number ≡ 19 → refusedOf 19 a (k .span .end) (k .reached) ≡ bodyOf base (tokenOf base d) a 0 (rest s p) p l
+  pub after-deep : (k : Refusal) → r ≡ Refused k → k .number ≡ 19 → refusedOf 19 a (k .span .end) (k .reached) ≡ bodyOf (rulesOf g) (tokenOf (rulesOf g) d) a 0 (rest s p) p l
   after-deep k e f = rw (e, eq-eqb (k .number) 19 f, goOn) at inner-on

@@ -1,33 +1,34 @@
 // The token reader and the template reader, which call each other with the remaining depth falling.
 use choice::read_first;
+use readers::Reading;
 use text::Scalar;
 use token::Kind;
 use token::Read;
 use token::refusal::TOO_DEEP;
 ghost use mathlib.Core.Path.{_≡_};
-ghost use Rattle.readers.specs.Rules.{base};
+ghost use Rattle.readers.specs.Rules.{rulesOf};
 ghost use Rattle.templates.specs.Body.{templateOf, tokenOf};
 ghost use Rattle.text.specs.Utf8.{rest};
 
 // The token at a place, within which `depth` templates may still open, one inside the other.
-pub fn read_token(s: &[u8], at: usize, depth: u32) -> Read
-    ensures { λ r. ⌜ r ≡ tokenOf base depth (rest (now (s .entry)) at) at ⌝ }
+pub fn read_token(s: &[u8], reading: Reading, at: usize, depth: u32) -> Read
+    ensures { λ r. ⌜ r ≡ tokenOf (rulesOf reading) depth (rest (now (s .entry)) at) at ⌝ }
 {
     let Scalar::One { value, next } = text::scalar_at(s, at) else {
         return token::got(Kind::Eof, at, at);
     };
     if value != 96 {
-        return read_first(s, value, at, next);
+        return read_first(s, reading, value, at, next);
     }
     if depth == 0 {
         return token::refused(TOO_DEEP, at, next, next);
     }
-    read_template(s, at, next, depth - 1)
+    read_template(s, reading, at, next, depth - 1)
 }
 
 // A template that starts at `start`, from behind its backtick on.
-fn read_template(s: &[u8], start: usize, at: usize, depth: u32) -> Read
-    ensures { λ r. ⌜ r ≡ templateOf base (tokenOf base depth) start (rest (now (s .entry)) at) at ⌝ }
+fn read_template(s: &[u8], reading: Reading, start: usize, at: usize, depth: u32) -> Read
+    ensures { λ r. ⌜ r ≡ templateOf (rulesOf reading) (tokenOf (rulesOf reading) depth) start (rest (now (s .entry)) at) at ⌝ }
 {
     let mut p = at;
     let mut level: u32 = 0;
@@ -47,7 +48,7 @@ fn read_template(s: &[u8], start: usize, at: usize, depth: u32) -> Read
             level = std::num::wrapping_sub_u32(level, 1);
             p = next;
         } else if value == 92 {
-            match read_token(s, next, depth) {
+            match read_token(s, reading, next, depth) {
                 Read::Got { token } => {
                     p = token.span.end;
                 }

@@ -1,3 +1,5 @@
 pub mod Steps
 pub mod Cover
 pub mod Starred
+pub mod Closings
+pub mod Switch

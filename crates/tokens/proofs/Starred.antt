@@ -8,9 +8,10 @@ use Rattle.laws.specs.Tables.{inRanges}
 use Rattle.lexer.specs.Next.{nextOf}
 use Rattle.numbers.specs.Kinds.{numberOf}
 use Rattle.operators.specs.Operators.{findOne, findThree, findTwo, lookOne, lookThree, lookTwo, ones, operatorOf, threes, twos}
-use Rattle.readers.specs.Readers.{byteOf, byteStep, charOf, charStep, commentOf, commentStep, run, whiteOf, wordOf}
-use Rattle.readers.specs.Rules.{base}
+use Rattle.readers.specs.Readers.{byteOf, byteStep, charOf, charStep, commentEnd, commentOf, commentStep, run, whiteOf, wordOf}
+use Rattle.readers.specs.Rules.{rulesOf, rune}
 use Rattle.readers.specs.Scan.{scan}
+use Rattle.readers.specs.declared.reading.Reading.{Reading}
 use Rattle.templates.specs.Body.{bodyOf, templateOf, tokenOf, turnOf}
 use Rattle.text.specs.Utf8.{decode, first, from, leadOf, rest, width}
 use Rattle.tokens.specs.Tokens.{Tokens, fin, halt, more, tokensAt, tokensOf}
@@ -26,8 +27,8 @@ shownOf fin = allRead
 shownOf (halt r) = refuses (r .number) (r .span .start) (r .span .end)
 shownOf (more k ts) = reads (numberOf (k .kind)) (k .span .start) (k .span .end) (shownOf ts)
 
-abbrev pub answerTo : List ℕ → Answer
-answerTo s = shownOf (tokensAt base s 0)
+abbrev pub answerBy : Reading → List ℕ → Answer
+answerBy g s = shownOf (tokensAt (rulesOf g) s 0)
 
 -- a source's bytes and its answer
 unfoldable pub examples : List (List ℕ × Answer)
@@ -61,8 +62,8 @@ examples =
     ∷ (39 ∷ 97 ∷ 32 ∷ 98 ∷ [], reads 15 0 2 (reads 1 2 3 (reads 6 3 4 allRead)))
     ∷ []
 
-pub starred : map (λ (e : List ℕ × Answer). answerTo (e .0)) examples ≡ map (λ (e : List ℕ × Answer). e .1) examples
-unfolding examples shownOf numberOf tokensAt tokensOf nextOf tokenOf tokenWith firstOf otherOf leftOf templateOf bodyOf turnOf whiteOf run scan commentOf commentStep byteOf byteStep charOf charStep wordOf operatorOf findOne findTwo findThree lookOne lookTwo lookThree ones twos threes inRanges whiteSpace xidStart xidContinue rest decode from first leadOf width
+pub starred : map (λ (e : List ℕ × Answer). answerBy rune (e .0)) examples ≡ map (λ (e : List ℕ × Answer). e .1) examples
+unfolding examples shownOf numberOf tokensAt tokensOf nextOf tokenOf tokenWith firstOf otherOf leftOf templateOf bodyOf turnOf whiteOf run scan commentOf commentEnd commentStep byteOf byteStep charOf charStep wordOf operatorOf findOne findTwo findThree lookOne lookTwo lookThree ones twos threes inRanges whiteSpace xidStart xidContinue rest decode from first leadOf width
 starred = refl
 
 -- a template with k more inside, each opened after a backslash in the one before and closed
@@ -70,7 +71,7 @@ unfoldable pub nested : ℕ → List ℕ
 nested zero = 96 ∷ 96 ∷ []
 nested (suc k) = 96 ∷ (92 ∷ (nested k ++ (96 ∷ [])))
 
--- depth 64 is read, a 65th is refused up to after its backtick
-pub depth-bound : (answerTo (nested 63) ≡ reads 16 0 191 allRead) × (answerTo (nested 64) ≡ refuses 19 0 129)
+-- depth 64 is read, a 65th is refused up to after its backtick, in every reading
+pub depth-bound : (g : Reading) → (answerBy g (nested 63) ≡ reads 16 0 191 allRead) × (answerBy g (nested 64) ≡ refuses 19 0 129)
 unfolding nested shownOf numberOf tokensAt tokensOf nextOf tokenOf tokenWith firstOf otherOf leftOf templateOf bodyOf turnOf operatorOf findOne findTwo findThree lookOne lookTwo lookThree ones twos threes inRanges whiteSpace xidStart rest decode from first leadOf width
-depth-bound = (refl, refl)
+depth-bound g = (refl, refl)

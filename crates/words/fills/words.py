@@ -23,7 +23,7 @@ fill('digit_at', {
 E = dict(S, p='(@loop .p)', g='(@loop .inv)', v='(@value .given .0 .0)', n='(@value .given .0 .1 .0)', place='(λ (o : Stop (Unit {0})). o .place)',
          step='(step-one $s$ $p$ $v$ $n$ (sym (@scalar-at .ensures) ∙ @value .given .1))', go='(runStep isXidContinue) _ _ _ _ $g$')
 fill('word_end', {
-    'Inv-loop': 'Goes (runStep isXidContinue) tt s p (scan (runStep isXidContinue) base tt at (rest s at) at)', 'μ-loop': 'length s - p',
+    'Inv-loop': 'Goes (runStep isXidContinue) tt s p (scan (runStep isXidContinue) width tt at (rest s at) at)', 'μ-loop': 'length s - p',
     'loop-holds': '($at$, refl)',
     'returns': ('run', 'ap $place$ (goes-end $go$ (step-none $s$ $p$ (sym (@scalar-at .ensures) ∙ @enum-told .given .1)))'),
     'returns-2': ('run', 'ap $place$ (goes-before $go$ _ _ $step$ tt (run-no isXidContinue $v$ (rest $s$ $n$) (sym (@is-xid-continue .ensures) ∙ not-true _ (@if1 .taken))))'),
@@ -39,13 +39,13 @@ M = dict(S, a='(@Start .args .start)', p='(@loop .p)', g='(@loop .inv)', w='(@lo
          v='(@value .given .0 .0)', n='(@value .given .0 .1 .0)', cs='(rest $s$ $n$)',
          step='(step-one $s$ $p$ $v$ $n$ (sym (@scalar-at .ensures) ∙ @value .given .1))',
          read='(λ (o : Stop Digits). gotOf Number $a$ (o .place))',
-         begun='(scan numberStep base integral $at$ (rest $s$ $at$) $at$)',
+         begun='(scan numberStep width integral $at$ (rest $s$ $at$) $at$)',
          go='numberStep $st$ $s$ $p$ $begun$ $g$',
          none='(sym (@in-number .ensures) ∙ @if1 .left)',
          first='(subst (λ (b : Bool). Goes numberStep (digitsAt b) $s$ $p$ $begun$) (not-false $w$ (@if2 .left)) $g$)',
          one='numberStep integral $s$ $p$ $begun$ $first$ $v$ $n$ $step$')
 fill('next_number_literal', {
-    'Inv-loop': 'Goes numberStep (digitsAt whole) s p (scan numberStep base integral at (rest s at) at)', 'μ-loop': 'length s - p',
+    'Inv-loop': 'Goes numberStep (digitsAt whole) s p (scan numberStep width integral at (rest s at) at)', 'μ-loop': 'length s - p',
     'loop-holds': '($at$, refl)',
     'returns': ('numberLitOf', '@got .ensures ∙ ap $read$ (goes-end $go$ (step-none $s$ $p$ (sym (@scalar-at .ensures) ∙ @enum-told .given .1)))'),
     'loop-less': 'let t = $step$ in omega arith',

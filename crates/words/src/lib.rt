@@ -5,11 +5,10 @@ use token::Read;
 ghost use mathlib.Core.Path.{_≡_};
 ghost use Rattle.classes.specs.Classes.{isXidContinue};
 ghost use Rattle.readers.specs.Readers.{beginsDigit, inNumber, numberLitOf, run, wordOf};
-ghost use Rattle.readers.specs.Rules.{base};
-ghost use Rattle.text.specs.Utf8.{first, rest};
+ghost use Rattle.text.specs.Utf8.{first, rest, width};
 
 fn word_end(s: &[u8], at: usize) -> usize
-    ensures { λ r. ⌜ r ≡ run base isXidContinue (rest (now (s .entry)) at) at ⌝ }
+    ensures { λ r. ⌜ r ≡ run width isXidContinue (rest (now (s .entry)) at) at ⌝ }
 {
     let mut p = at;
     loop {
@@ -25,7 +24,7 @@ fn word_end(s: &[u8], at: usize) -> usize
 
 // A word that begins with the scalar `first`.
 pub fn next_ident(s: &[u8], first: u32, start: usize, at: usize) -> Read
-    ensures { λ r. ⌜ r ≡ wordOf base first start (rest (now (s .entry)) at) at ⌝ }
+    ensures { λ r. ⌜ r ≡ wordOf width isXidContinue first start (rest (now (s .entry)) at) at ⌝ }
 {
     let end = word_end(s, at);
     if first == 95 {
@@ -56,7 +55,7 @@ fn digit_at(s: &[u8], at: usize) -> bool
 }
 
 pub fn next_number_literal(s: &[u8], start: usize, at: usize) -> Read
-    ensures { λ r. ⌜ r ≡ numberLitOf base start (rest (now (s .entry)) at) at ⌝ }
+    ensures { λ r. ⌜ r ≡ numberLitOf width start (rest (now (s .entry)) at) at ⌝ }
 {
     let mut p = at;
     let mut whole = true;

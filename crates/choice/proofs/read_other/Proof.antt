@@ -2,7 +2,8 @@ use mathlib.Core.Path.{sym, _∙_}
 use borrow.Author.Needs.{needs}
 use Rattle.choice.proofs.Choice.{other-found, other-left}
 use Rattle.choice.specs.Rule.{noTemplate}
-use Rattle.text.specs.Utf8.{first, rest}
+use Rattle.readers.specs.Rules.{rune}
+use Rattle.text.specs.Utf8.{rest}
 use Rattle.choice.proofs.read_other.Statement.{statement}
 use Rattle.choice.proofs.read_other.Tie as tie
 
@@ -19,13 +20,13 @@ read-left-requires : tie.Need-read-left-requires
 read-left-requires c κs = search needs
 
 returns : tie.Need-returns
-returns c = c .read-left .ensures ∙ other-left noTemplate (c .before .before .before .before .before .args .start) (rest (c .before .before .before .before .before .args .s .now) (c .before .before .before .before .before .args .at)) (c .before .before .before .before .before .args .at) (c .before .before .before .before .before .args .value) (sym (c .before .before .before .next-operator .ensures) ∙ c .before .enum-told .given .1)
+returns c = c .read-left .ensures ∙ other-left rune noTemplate (c .before .before .before .before .before .args .start) (rest (c .before .before .before .before .before .args .s .now) (c .before .before .before .before .before .args .at)) (c .before .before .before .before .before .args .at) (c .before .before .before .before .before .args .value) (sym (c .before .before .before .next-operator .ensures) ∙ c .before .enum-told .given .1)
 
 got-requires : tie.Need-got-requires
 got-requires c κs = search needs
 
 returns-2 : tie.Need-returns-2
-returns-2 c = c .got .ensures ∙ other-found noTemplate (c .before .before .before .before .before .before .args .start) (rest (c .before .before .before .before .before .before .args .s .now) (c .before .before .before .before .before .before .args .at)) (c .before .before .before .before .before .before .args .at) (c .before .before .before .before .before .before .args .value) _ _ (sym (c .before .before .before .before .next-operator .ensures) ∙ c .before .before .kind .given .1)
+returns-2 c = c .got .ensures ∙ other-found rune noTemplate (c .before .before .before .before .before .before .args .start) (rest (c .before .before .before .before .before .before .args .s .now) (c .before .before .before .before .before .before .args .at)) (c .before .before .before .before .before .before .args .at) (c .before .before .before .before .before .before .args .value) _ _ (sym (c .before .before .before .before .next-operator .ensures) ∙ c .before .before .kind .given .1)
 
 pub read-other-spec : {M : Type 1} → statement M
 read-other-spec =

@@ -33,16 +33,16 @@ refused-requires-3 : tie.Need-refused-requires-3
 refused-requires-3 c κs = search needs
 
 returns : tie.Need-returns
-returns c = c .next .ensures ∙ sym (read-case (c .before .before .before .before .before .args .s .now) (c .before .before .before .before .before .args .at) Sound (sym (c .before .enum-told .given .1) ∙ c .before .before .before .test-position .ensures))
+returns c = c .next .ensures ∙ sym (read-case (c .before .before .before .before .before .args .reading) (c .before .before .before .before .before .args .s .now) (c .before .before .before .before .before .args .at) Sound (sym (c .before .enum-told .given .1) ∙ c .before .before .before .test-position .ensures))
 
 returns-2 : tie.Need-returns-2
-returns-2 c = c .refused .ensures ∙ sym (read-case (c .before .before .before .before .before .args .s .now) (c .before .before .before .before .before .args .at) TooLong (sym (c .before .enum-told2 .given .1) ∙ c .before .before .before .test-position .ensures))
+returns-2 c = c .refused .ensures ∙ sym (read-case (c .before .before .before .before .before .args .reading) (c .before .before .before .before .before .args .s .now) (c .before .before .before .before .before .args .at) TooLong (sym (c .before .enum-told2 .given .1) ∙ c .before .before .before .test-position .ensures))
 
 returns-3 : tie.Need-returns-3
-returns-3 c = c .refused2 .ensures ∙ sym (read-case (c .before .before .before .before .before .before .args .s .now) (c .before .before .before .before .before .before .args .at) (IllFormed (c .before .before .bad .given .0 .0)) (sym (c .before .before .bad .given .1) ∙ c .before .before .before .before .test-position .ensures))
+returns-3 c = c .refused2 .ensures ∙ sym (read-case (c .before .before .before .before .before .before .args .reading) (c .before .before .before .before .before .before .args .s .now) (c .before .before .before .before .before .before .args .at) (IllFormed (c .before .before .bad .given .0 .0)) (sym (c .before .before .bad .given .1) ∙ c .before .before .before .before .test-position .ensures))
 
 returns-4 : tie.Need-returns-4
-returns-4 c = c .refused3 .ensures ∙ sym (read-case (c .before .before .before .before .before .before .args .s .now) (c .before .before .before .before .before .before .args .at) (Misplaced (c .before .before .bad2 .given .0 .0)) (sym (c .before .before .bad2 .given .1) ∙ c .before .before .before .before .test-position .ensures))
+returns-4 c = c .refused3 .ensures ∙ sym (read-case (c .before .before .before .before .before .before .args .reading) (c .before .before .before .before .before .before .args .s .now) (c .before .before .before .before .before .before .args .at) (Misplaced (c .before .before .bad2 .given .0 .0)) (sym (c .before .before .bad2 .given .1) ∙ c .before .before .before .before .test-position .ensures))
 
 pub read-spec : {M : Type 1} → statement M
 read-spec =

@@ -14,7 +14,7 @@ later-requires : tie.Need-later-requires
 later-requires c κs = search needs
 
 returns-2 : tie.Need-returns-2
-returns-2 c = c .later .ensures ∙ later-next (c .before .before .before .args .s .now) (c .before .before .before .args .at) (c .before .if1 .left)
+returns-2 c = c .later .ensures ∙ later-next (c .before .before .before .args .reading) (c .before .before .before .args .s .now) (c .before .before .before .args .at) (c .before .if1 .left)
 
 pub next-token-spec : {M : Type 1} → statement M
 next-token-spec = tie.close (tie.spec next-requires returns later-requires returns-2)

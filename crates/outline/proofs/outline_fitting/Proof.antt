@@ -14,7 +14,7 @@ outline-tokens-requires : tie.Need-outline-tokens-requires
 outline-tokens-requires c κs = c .before .if1 .left
 
 same-length : tie.Need-same-length
-same-length c = c .before .before .outline-tokens .kept .1 .0
+same-length c = c .before .before .outline-tokens .kept .1 .1 .0
 
 returns-2 : tie.Need-returns-2
 returns-2 c = (c .before .before .outline-tokens .ensures .0 ∙ sym (simp (le-ltb _ _ (c .before .before .before .before .if1 .left))), c .before .before .outline-tokens .ensures .1 ∙ sym (simp (le-ltb _ _ (c .before .before .before .before .if1 .left))))

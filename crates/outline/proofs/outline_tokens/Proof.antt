@@ -4,19 +4,19 @@ use native.Mathlib.Omega.{arith}
 use borrow.Author.Needs.{needs}
 use lib.ListN.{length}
 use Rattle.marks.proofs.Marks.{open-few}
-use Rattle.numbers.specs.Kinds.{numberOf}
 use Rattle.outline.proofs.Shading.{Shaded, shade-fin, shade-halt, shade-more, shade-past, shade-room, shaded-first}
+use Rattle.numbers.specs.Kinds.{numberOf}
 use Rattle.outline.proofs.outline_tokens.Statement.{statement}
 use Rattle.outline.proofs.outline_tokens.Tie as tie
 
 abbrev Inv-loop : tie.InvT-loop
-Inv-loop s out₀ at₀ out at = Shaded s out₀ out at
+Inv-loop s reading out₀ at₀ out at = Shaded reading s out₀ out at
 
 abbrev μ-loop : tie.MeasureT-loop
-μ-loop s out₀ at₀ out at = length s - at
+μ-loop s reading out₀ at₀ out at = length s - at
 
 loop-holds : tie.Need-loop-holds Inv-loop μ-loop
-loop-holds c = shaded-first _ _ (c .before .before .pre)
+loop-holds c = shaded-first _ _ _ (c .before .before .pre)
 
 next-requires : tie.Need-next-requires Inv-loop μ-loop
 next-requires c κs = search needs
@@ -31,7 +31,7 @@ same-length : tie.Need-same-length Inv-loop μ-loop
 same-length c = c .before .before .fill .kept .1 .0 ∙ c .before .before .before .before .before .before .before .before .loop .inv .same
 
 returns : tie.Need-returns Inv-loop μ-loop
-returns c = shade-halt (c .before .before .before .before .before .before .before .before .before .before .before .args .s .now) (c .before .before .before .before .before .before .before .before .before .before .before .args .out .now) (c .before .before .before .before .before .before .before .before .loop .out) (c .before .before .before .before .before .before .before .before .loop .at) (c .before .before .before .before .before .before .before .before .loop .inv) (c .before .before .before .before .before .before .before .next .result) (c .before .before .before .before .before .before .before .next .ensures) (c .before .before .before .before .before .refusal .given .0 .0) (c .before .before .before .before .before .refusal .given .1) _ (c .before .before .fill .ensures)
+returns c = shade-halt (c .before .before .before .before .before .before .before .before .before .before .before .args .reading) (c .before .before .before .before .before .before .before .before .before .before .before .args .s .now) (c .before .before .before .before .before .before .before .before .before .before .before .args .out .now) (c .before .before .before .before .before .before .before .before .loop .out) (c .before .before .before .before .before .before .before .before .loop .at) (c .before .before .before .before .before .before .before .before .loop .inv) (c .before .before .before .before .before .before .before .next .result) (c .before .before .before .before .before .before .before .next .ensures) (c .before .before .before .before .before .refusal .given .0 .0) (c .before .before .before .before .before .refusal .given .1) _ (c .before .before .fill .ensures)
 
 enum-known-token : tie.Need-enum-known-token Inv-loop μ-loop
 enum-known-token c = search needs
@@ -43,7 +43,7 @@ same-length-2 : tie.Need-same-length-2 Inv-loop μ-loop
 same-length-2 c = c .before .before .fill2 .kept .1 .0 ∙ c .before .before .before .before .before .before .before .before .before .before .loop .inv .same
 
 returns-2 : tie.Need-returns-2 Inv-loop μ-loop
-returns-2 c = shade-fin (c .before .before .before .before .before .before .before .before .before .before .before .before .before .args .s .now) (c .before .before .before .before .before .before .before .before .before .before .before .before .before .args .out .now) (c .before .before .before .before .before .before .before .before .before .before .loop .out) (c .before .before .before .before .before .before .before .before .before .before .loop .at) (c .before .before .before .before .before .before .before .before .before .before .loop .inv) (c .before .before .before .before .before .before .before .before .before .next .result) (c .before .before .before .before .before .before .before .before .before .next .ensures) (c .before .before .before .before .before .before .before .token .given .0 .0) (c .before .before .before .before .before .before .before .token .given .1) (c .before .before .before .before .if1 .taken) _ (c .before .before .fill2 .ensures)
+returns-2 c = shade-fin (c .before .before .before .before .before .before .before .before .before .before .before .before .before .args .reading) (c .before .before .before .before .before .before .before .before .before .before .before .before .before .args .s .now) (c .before .before .before .before .before .before .before .before .before .before .before .before .before .args .out .now) (c .before .before .before .before .before .before .before .before .before .before .loop .out) (c .before .before .before .before .before .before .before .before .before .before .loop .at) (c .before .before .before .before .before .before .before .before .before .before .loop .inv) (c .before .before .before .before .before .before .before .before .before .next .result) (c .before .before .before .before .before .before .before .before .before .next .ensures) (c .before .before .before .before .before .before .before .token .given .0 .0) (c .before .before .before .before .before .before .before .token .given .1) (c .before .before .before .before .if1 .taken) _ (c .before .before .fill2 .ensures)
 
 has-inside-requires : tie.Need-has-inside-requires Inv-loop μ-loop
 has-inside-requires c κs = search needs
@@ -58,13 +58,13 @@ closes-requires : tie.Need-closes-requires Inv-loop μ-loop
 closes-requires c κs = search needs
 
 fill-requires-3 : tie.Need-fill-requires-3 Inv-loop μ-loop
-fill-requires-3 c κs = ((shade-room (c .before .before .before .before .before .before .before .before .before .before .before .before .before .args .s .now) (c .before .before .before .before .before .before .before .before .before .before .before .before .before .args .out .now) (c .before .before .before .before .before .before .before .before .before .before .loop .out) (c .before .before .before .before .before .before .before .before .before .before .loop .at) (c .before .before .before .before .before .before .before .before .before .before .loop .inv) (c .before .before .before .before .before .before .before .before .before .next .result) (c .before .before .before .before .before .before .before .before .before .next .ensures) (c .before .before .before .before .before .before .before .token .given .0 .0) (c .before .before .before .before .before .before .before .token .given .1) (c .before .before .before .before .if1 .left)), omega (arith, (shade-room (c .before .before .before .before .before .before .before .before .before .before .before .before .before .args .s .now) (c .before .before .before .before .before .before .before .before .before .before .before .before .before .args .out .now) (c .before .before .before .before .before .before .before .before .before .before .loop .out) (c .before .before .before .before .before .before .before .before .before .before .loop .at) (c .before .before .before .before .before .before .before .before .before .before .loop .inv) (c .before .before .before .before .before .before .before .before .before .next .result) (c .before .before .before .before .before .before .before .before .before .next .ensures) (c .before .before .before .before .before .before .before .token .given .0 .0) (c .before .before .before .before .before .before .before .token .given .1) (c .before .before .before .before .if1 .left)), c .before .before .before .before .before .before .before .before .before .before .loop .inv))
+fill-requires-3 c κs = ((shade-room (c .before .before .before .before .before .before .before .before .before .before .before .before .before .args .reading) (c .before .before .before .before .before .before .before .before .before .before .before .before .before .args .s .now) (c .before .before .before .before .before .before .before .before .before .before .before .before .before .args .out .now) (c .before .before .before .before .before .before .before .before .before .before .loop .out) (c .before .before .before .before .before .before .before .before .before .before .loop .at) (c .before .before .before .before .before .before .before .before .before .before .loop .inv) (c .before .before .before .before .before .before .before .before .before .next .result) (c .before .before .before .before .before .before .before .before .before .next .ensures) (c .before .before .before .before .before .before .before .token .given .0 .0) (c .before .before .before .before .before .before .before .token .given .1) (c .before .before .before .before .if1 .left)), omega (arith, (shade-room (c .before .before .before .before .before .before .before .before .before .before .before .before .before .args .reading) (c .before .before .before .before .before .before .before .before .before .before .before .before .before .args .s .now) (c .before .before .before .before .before .before .before .before .before .before .before .before .before .args .out .now) (c .before .before .before .before .before .before .before .before .before .before .loop .out) (c .before .before .before .before .before .before .before .before .before .before .loop .at) (c .before .before .before .before .before .before .before .before .before .before .loop .inv) (c .before .before .before .before .before .before .before .before .before .next .result) (c .before .before .before .before .before .before .before .before .before .next .ensures) (c .before .before .before .before .before .before .before .token .given .0 .0) (c .before .before .before .before .before .before .before .token .given .1) (c .before .before .before .before .if1 .left)), c .before .before .before .before .before .before .before .before .before .before .loop .inv))
 
 loop-less : tie.Need-loop-less Inv-loop μ-loop
-loop-less c = omega (arith, (shade-past (c .before .before .before .before .before .before .before .before .before .before .before .before .before .before .before .before .args .s .now) (c .before .before .before .before .before .before .before .before .before .before .before .before .before .before .before .before .args .out .now) (c .before .before .before .before .before .before .before .before .before .before .before .before .before .loop .out) (c .before .before .before .before .before .before .before .before .before .before .before .before .before .loop .at) (c .before .before .before .before .before .before .before .before .before .before .before .before .before .loop .inv) (c .before .before .before .before .before .before .before .before .before .before .before .before .next .result) (c .before .before .before .before .before .before .before .before .before .before .before .before .next .ensures) (c .before .before .before .before .before .before .before .before .before .before .token .given .0 .0) (c .before .before .before .before .before .before .before .before .before .before .token .given .1) (c .before .before .before .before .before .before .before .if1 .left)), (shade-room (c .before .before .before .before .before .before .before .before .before .before .before .before .before .before .before .before .args .s .now) (c .before .before .before .before .before .before .before .before .before .before .before .before .before .before .before .before .args .out .now) (c .before .before .before .before .before .before .before .before .before .before .before .before .before .loop .out) (c .before .before .before .before .before .before .before .before .before .before .before .before .before .loop .at) (c .before .before .before .before .before .before .before .before .before .before .before .before .before .loop .inv) (c .before .before .before .before .before .before .before .before .before .before .before .before .next .result) (c .before .before .before .before .before .before .before .before .before .before .before .before .next .ensures) (c .before .before .before .before .before .before .before .before .before .before .token .given .0 .0) (c .before .before .before .before .before .before .before .before .before .before .token .given .1) (c .before .before .before .before .before .before .before .if1 .left)))
+loop-less c = omega (arith, (shade-past (c .before .before .before .before .before .before .before .before .before .before .before .before .before .before .before .before .args .reading) (c .before .before .before .before .before .before .before .before .before .before .before .before .before .before .before .before .args .s .now) (c .before .before .before .before .before .before .before .before .before .before .before .before .before .before .before .before .args .out .now) (c .before .before .before .before .before .before .before .before .before .before .before .before .before .loop .out) (c .before .before .before .before .before .before .before .before .before .before .before .before .before .loop .at) (c .before .before .before .before .before .before .before .before .before .before .before .before .before .loop .inv) (c .before .before .before .before .before .before .before .before .before .before .before .before .next .result) (c .before .before .before .before .before .before .before .before .before .before .before .before .next .ensures) (c .before .before .before .before .before .before .before .before .before .before .token .given .0 .0) (c .before .before .before .before .before .before .before .before .before .before .token .given .1) (c .before .before .before .before .before .before .before .if1 .left)), (shade-room (c .before .before .before .before .before .before .before .before .before .before .before .before .before .before .before .before .args .reading) (c .before .before .before .before .before .before .before .before .before .before .before .before .before .before .before .before .args .s .now) (c .before .before .before .before .before .before .before .before .before .before .before .before .before .before .before .before .args .out .now) (c .before .before .before .before .before .before .before .before .before .before .before .before .before .loop .out) (c .before .before .before .before .before .before .before .before .before .before .before .before .before .loop .at) (c .before .before .before .before .before .before .before .before .before .before .before .before .before .loop .inv) (c .before .before .before .before .before .before .before .before .before .before .before .before .next .result) (c .before .before .before .before .before .before .before .before .before .before .before .before .next .ensures) (c .before .before .before .before .before .before .before .before .before .before .token .given .0 .0) (c .before .before .before .before .before .before .before .before .before .before .token .given .1) (c .before .before .before .before .before .before .before .if1 .left)))
 
 loop-again : tie.Need-loop-again Inv-loop μ-loop
-loop-again c = shade-more (c .before .before .before .before .before .before .before .before .before .before .before .before .before .before .before .before .args .s .now) (c .before .before .before .before .before .before .before .before .before .before .before .before .before .before .before .before .args .out .now) (c .before .before .before .before .before .before .before .before .before .before .before .before .before .loop .out) (c .before .before .before .before .before .before .before .before .before .before .before .before .before .loop .at) (c .before .before .before .before .before .before .before .before .before .before .before .before .before .loop .inv) (c .before .before .before .before .before .before .before .before .before .before .before .before .next .result) (c .before .before .before .before .before .before .before .before .before .before .before .before .next .ensures) (c .before .before .before .before .before .before .before .before .before .before .token .given .0 .0) (c .before .before .before .before .before .before .before .before .before .before .token .given .1) (c .before .before .before .before .before .before .before .if1 .left) (c .before .before .before .before .before .has-inside .result) (c .before .before .before .before .before .before .before .before .before .before .before .before .before .loop .at + c .before .before .before .before .opens .result) (c .before .before .before .closes .result) (c .before .before .before .before .before .has-inside .ensures) (ap (λ (z : ℕ). c .before .before .before .before .before .before .before .before .before .before .before .before .before .loop .at + z) (c .before .before .before .before .opens .ensures)) (c .before .before .before .closes .ensures) _ (c .before .before .fill3 .kept .1 .0) (c .before .before .fill3 .ensures)
+loop-again c = shade-more (c .before .before .before .before .before .before .before .before .before .before .before .before .before .before .before .before .args .reading) (c .before .before .before .before .before .before .before .before .before .before .before .before .before .before .before .before .args .s .now) (c .before .before .before .before .before .before .before .before .before .before .before .before .before .before .before .before .args .out .now) (c .before .before .before .before .before .before .before .before .before .before .before .before .before .loop .out) (c .before .before .before .before .before .before .before .before .before .before .before .before .before .loop .at) (c .before .before .before .before .before .before .before .before .before .before .before .before .before .loop .inv) (c .before .before .before .before .before .before .before .before .before .before .before .before .next .result) (c .before .before .before .before .before .before .before .before .before .before .before .before .next .ensures) (c .before .before .before .before .before .before .before .before .before .before .token .given .0 .0) (c .before .before .before .before .before .before .before .before .before .before .token .given .1) (c .before .before .before .before .before .before .before .if1 .left) (c .before .before .before .before .before .has-inside .result) (c .before .before .before .before .before .before .before .before .before .before .before .before .before .loop .at + c .before .before .before .before .opens .result) (c .before .before .before .closes .result) (c .before .before .before .before .before .has-inside .ensures) (ap (λ (z : ℕ). c .before .before .before .before .before .before .before .before .before .before .before .before .before .loop .at + z) (c .before .before .before .before .opens .ensures)) (c .before .before .before .closes .ensures) _ (c .before .before .fill3 .kept .1 .0) (c .before .before .fill3 .ensures)
 
 pub outline-tokens-spec : {M : Type 1} → statement M
 outline-tokens-spec =

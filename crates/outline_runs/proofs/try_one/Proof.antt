@@ -20,16 +20,16 @@ agrees-requires : tie.Need-agrees-requires
 agrees-requires c κs = search needs
 
 same-length : tie.Need-same-length
-same-length c = c .before .before .before .before .before .before .before .before .before .agrees .kept .1 .0
+same-length c = c .before .before .before .before .before .before .before .before .before .agrees .kept .1 .1 .0
 
 same-length-2 : tie.Need-same-length-2
-same-length-2 c = c .before .before .before .before .before .before .before .before .before .agrees .kept .1 .1 .0
+same-length-2 c = c .before .before .before .before .before .before .before .before .before .agrees .kept .1 .1 .1 .0
 
 same-length-3 : tie.Need-same-length-3
-same-length-3 c = c .before .before .before .before .before .before .before .before .before .agrees .kept .1 .1 .1 .0
+same-length-3 c = c .before .before .before .before .before .before .before .before .before .agrees .kept .1 .1 .1 .1 .0
 
 same-length-4 : tie.Need-same-length-4
-same-length-4 c = c .before .before .before .before .before .before .before .before .before .agrees .kept .1 .1 .1 .1 .0
+same-length-4 c = c .before .before .before .before .before .before .before .before .before .agrees .kept .1 .1 .1 .1 .1 .0
 
 returns-2 : tie.Need-returns-2
 returns-2 c = search needs
@@ -41,7 +41,7 @@ refuses-requires : tie.Need-refuses-requires
 refuses-requires c κs = search needs
 
 same-length-5 : tie.Need-same-length-5
-same-length-5 c = c .before .before .before .refuses .kept .1 .0
+same-length-5 c = c .before .before .before .refuses .kept .1 .1 .0
 
 same-length-6 : tie.Need-same-length-6
 same-length-6 c = refl
@@ -56,22 +56,22 @@ enum-told-3 : tie.Need-enum-told-3
 enum-told-3 c = search needs
 
 same-length-7 : tie.Need-same-length-7
-same-length-7 c = c .before .before .before .before .before .before .before .before .before .agrees .kept .1 .0
+same-length-7 c = c .before .before .before .before .before .before .before .before .before .agrees .kept .1 .1 .0
 
 same-length-8 : tie.Need-same-length-8
-same-length-8 c = c .before .before .before .before .before .before .before .before .before .agrees .kept .1 .1 .0
+same-length-8 c = c .before .before .before .before .before .before .before .before .before .agrees .kept .1 .1 .1 .0
 
 same-length-9 : tie.Need-same-length-9
-same-length-9 c = c .before .before .before .before .before .before .before .before .before .agrees .kept .1 .1 .1 .0
+same-length-9 c = c .before .before .before .before .before .before .before .before .before .agrees .kept .1 .1 .1 .1 .0
 
 same-length-10 : tie.Need-same-length-10
-same-length-10 c = c .before .before .before .before .before .before .before .before .before .agrees .kept .1 .1 .1 .1 .0
+same-length-10 c = c .before .before .before .before .before .before .before .before .before .agrees .kept .1 .1 .1 .1 .1 .0
 
 returns-4 : tie.Need-returns-4
 returns-4 c = search needs
 
 same-length-11 : tie.Need-same-length-11
-same-length-11 c = c .before .before .before .refuses .kept .1 .0
+same-length-11 c = c .before .before .before .refuses .kept .1 .1 .0
 
 same-length-12 : tie.Need-same-length-12
 same-length-12 c = refl

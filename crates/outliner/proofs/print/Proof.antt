@@ -26,7 +26,7 @@ slice-reshare-prefix-write-all : tie.Need-slice-reshare-prefix-write-all
 slice-reshare-prefix-write-all c = search needs
 
 slice-aggregate-write-all-2 : tie.Need-slice-aggregate-write-all-2
-slice-aggregate-write-all-2 c = let h = sym (length-take-le (length (c .before .before .before .before .before .before .before .before .before .before .args .s .now)) (c .before .before .before .before .before .outline .last .1 .0) (omega (arith, c .before .before .before .before .before .outline .kept .1 .0, c .before .before .before .before .before .before .before .if1 .left))) in search needs
+slice-aggregate-write-all-2 c = let h = sym (length-take-le (length (c .before .before .before .before .before .before .before .before .before .before .args .s .now)) (c .before .before .before .before .before .outline .last .1 .1 .0) (omega (arith, c .before .before .before .before .before .outline .kept .1 .1 .0, c .before .before .before .before .before .before .before .if1 .left))) in search needs
 
 write-all-requires-2 : tie.Need-write-all-requires-2
 write-all-requires-2 c κs = search needs
@@ -38,7 +38,7 @@ slice-reshare-prefix-write-all-2 : tie.Need-slice-reshare-prefix-write-all-2
 slice-reshare-prefix-write-all-2 c = search needs
 
 slice-aggregate-write-all-3 : tie.Need-slice-aggregate-write-all-3
-slice-aggregate-write-all-3 c = let h = sym (length-take-le (length (c .before .before .before .before .before .before .before .before .before .before .before .before .before .args .s .now)) (c .before .before .before .before .before .before .before .before .outline .last .1 .0) (omega (arith, c .before .before .before .before .before .before .before .before .outline .kept .1 .0, c .before .before .before .before .before .before .before .before .before .before .if1 .left))) in search needs
+slice-aggregate-write-all-3 c = let h = sym (length-take-le (length (c .before .before .before .before .before .before .before .before .before .before .before .before .before .args .s .now)) (c .before .before .before .before .before .before .before .before .outline .last .1 .1 .0) (omega (arith, c .before .before .before .before .before .before .before .before .outline .kept .1 .1 .0, c .before .before .before .before .before .before .before .before .before .before .if1 .left))) in search needs
 
 write-all-requires-3 : tie.Need-write-all-requires-3
 write-all-requires-3 c κs = search needs

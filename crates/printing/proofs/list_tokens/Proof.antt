@@ -9,10 +9,10 @@ use Rattle.printing.proofs.list_tokens.Statement.{statement}
 use Rattle.printing.proofs.list_tokens.Tie as tie
 
 abbrev Inv-loop : tie.InvT-loop
-Inv-loop s out₀ waiting waiting₀ at₀ count₀ out waiting' at count = (at ≤ length s) × (count ≤ at) × (length out ≡ length out₀)
+Inv-loop s reading out₀ waiting waiting₀ at₀ count₀ out waiting' at count = (at ≤ length s) × (count ≤ at) × (length out ≡ length out₀)
 
 abbrev μ-loop : tie.MeasureT-loop
-μ-loop s out₀ waiting waiting₀ at₀ count₀ out waiting' at count = length s - at
+μ-loop s reading out₀ waiting waiting₀ at₀ count₀ out waiting' at count = length s - at
 
 loop-holds : tie.Need-loop-holds Inv-loop μ-loop
 loop-holds c = search needs
@@ -51,13 +51,13 @@ put-three-requires : tie.Need-put-three-requires Inv-loop μ-loop
 put-three-requires c κs = search needs
 
 add-count : tie.Need-add-count Inv-loop μ-loop
-add-count c = omega (arith, tokens-past (c .before .before .before .before .before .before .before .before .before .before .before .before .before .before .args .s .now) (c .before .before .before .before .before .before .before .before .before .before .before .loop .at) (c .before .before .before .before .before .before .before .before .before .before .next .result) (c .before .before .before .before .before .before .before .before .before .before .next .ensures) (c .before .before .before .before .before .before .before .before .token .given .0 .0) (c .before .before .before .before .before .before .before .before .token .given .1) (c .before .before .before .before .before .if1 .left), tokens-room (c .before .before .before .before .before .before .before .before .before .before .before .before .before .before .args .s .now) (c .before .before .before .before .before .before .before .before .before .before .before .loop .at) (c .before .before .before .before .before .before .before .before .before .before .next .result) (c .before .before .before .before .before .before .before .before .before .before .next .ensures) (c .before .before .before .before .before .before .before .before .token .given .0 .0) (c .before .before .before .before .before .before .before .before .token .given .1) (c .before .before .before .before .before .if1 .left), c .before .before .before .before .before .before .before .before .before .before .before .loop .inv .1, c .before .before .before .before .before .before .before .before .before .before .before .before .before .before .good)
+add-count c = omega (arith, tokens-past (c .before .before .before .before .before .before .before .before .before .before .before .before .before .before .args .reading) (c .before .before .before .before .before .before .before .before .before .before .before .before .before .before .args .s .now) (c .before .before .before .before .before .before .before .before .before .before .before .loop .at) (c .before .before .before .before .before .before .before .before .before .before .next .result) (c .before .before .before .before .before .before .before .before .before .before .next .ensures) (c .before .before .before .before .before .before .before .before .token .given .0 .0) (c .before .before .before .before .before .before .before .before .token .given .1) (c .before .before .before .before .before .if1 .left), tokens-room (c .before .before .before .before .before .before .before .before .before .before .before .before .before .before .args .reading) (c .before .before .before .before .before .before .before .before .before .before .before .before .before .before .args .s .now) (c .before .before .before .before .before .before .before .before .before .before .before .loop .at) (c .before .before .before .before .before .before .before .before .before .before .next .result) (c .before .before .before .before .before .before .before .before .before .before .next .ensures) (c .before .before .before .before .before .before .before .before .token .given .0 .0) (c .before .before .before .before .before .before .before .before .token .given .1) (c .before .before .before .before .before .if1 .left), c .before .before .before .before .before .before .before .before .before .before .before .loop .inv .1, c .before .before .before .before .before .before .before .before .before .before .before .before .before .before .good)
 
 loop-less : tie.Need-loop-less Inv-loop μ-loop
-loop-less c = omega (arith, tokens-past (c .before .before .before .before .before .before .before .before .before .before .before .before .before .before .args .s .now) (c .before .before .before .before .before .before .before .before .before .before .before .loop .at) (c .before .before .before .before .before .before .before .before .before .before .next .result) (c .before .before .before .before .before .before .before .before .before .before .next .ensures) (c .before .before .before .before .before .before .before .before .token .given .0 .0) (c .before .before .before .before .before .before .before .before .token .given .1) (c .before .before .before .before .before .if1 .left), tokens-room (c .before .before .before .before .before .before .before .before .before .before .before .before .before .before .args .s .now) (c .before .before .before .before .before .before .before .before .before .before .before .loop .at) (c .before .before .before .before .before .before .before .before .before .before .next .result) (c .before .before .before .before .before .before .before .before .before .before .next .ensures) (c .before .before .before .before .before .before .before .before .token .given .0 .0) (c .before .before .before .before .before .before .before .before .token .given .1) (c .before .before .before .before .before .if1 .left))
+loop-less c = omega (arith, tokens-past (c .before .before .before .before .before .before .before .before .before .before .before .before .before .before .args .reading) (c .before .before .before .before .before .before .before .before .before .before .before .before .before .before .args .s .now) (c .before .before .before .before .before .before .before .before .before .before .before .loop .at) (c .before .before .before .before .before .before .before .before .before .before .next .result) (c .before .before .before .before .before .before .before .before .before .before .next .ensures) (c .before .before .before .before .before .before .before .before .token .given .0 .0) (c .before .before .before .before .before .before .before .before .token .given .1) (c .before .before .before .before .before .if1 .left), tokens-room (c .before .before .before .before .before .before .before .before .before .before .before .before .before .before .args .reading) (c .before .before .before .before .before .before .before .before .before .before .before .before .before .before .args .s .now) (c .before .before .before .before .before .before .before .before .before .before .before .loop .at) (c .before .before .before .before .before .before .before .before .before .before .next .result) (c .before .before .before .before .before .before .before .before .before .before .next .ensures) (c .before .before .before .before .before .before .before .before .token .given .0 .0) (c .before .before .before .before .before .before .before .before .token .given .1) (c .before .before .before .before .before .if1 .left))
 
 loop-again : tie.Need-loop-again Inv-loop μ-loop
-loop-again c = (tokens-room (c .before .before .before .before .before .before .before .before .before .before .before .before .before .before .args .s .now) (c .before .before .before .before .before .before .before .before .before .before .before .loop .at) (c .before .before .before .before .before .before .before .before .before .before .next .result) (c .before .before .before .before .before .before .before .before .before .before .next .ensures) (c .before .before .before .before .before .before .before .before .token .given .0 .0) (c .before .before .before .before .before .before .before .before .token .given .1) (c .before .before .before .before .before .if1 .left), omega (arith, tokens-past (c .before .before .before .before .before .before .before .before .before .before .before .before .before .before .args .s .now) (c .before .before .before .before .before .before .before .before .before .before .before .loop .at) (c .before .before .before .before .before .before .before .before .before .before .next .result) (c .before .before .before .before .before .before .before .before .before .before .next .ensures) (c .before .before .before .before .before .before .before .before .token .given .0 .0) (c .before .before .before .before .before .before .before .before .token .given .1) (c .before .before .before .before .before .if1 .left), c .before .before .before .before .before .before .before .before .before .before .before .loop .inv .1), search needs)
+loop-again c = (tokens-room (c .before .before .before .before .before .before .before .before .before .before .before .before .before .before .args .reading) (c .before .before .before .before .before .before .before .before .before .before .before .before .before .before .args .s .now) (c .before .before .before .before .before .before .before .before .before .before .before .loop .at) (c .before .before .before .before .before .before .before .before .before .before .next .result) (c .before .before .before .before .before .before .before .before .before .before .next .ensures) (c .before .before .before .before .before .before .before .before .token .given .0 .0) (c .before .before .before .before .before .before .before .before .token .given .1) (c .before .before .before .before .before .if1 .left), omega (arith, tokens-past (c .before .before .before .before .before .before .before .before .before .before .before .before .before .before .args .reading) (c .before .before .before .before .before .before .before .before .before .before .before .before .before .before .args .s .now) (c .before .before .before .before .before .before .before .before .before .before .before .loop .at) (c .before .before .before .before .before .before .before .before .before .before .next .result) (c .before .before .before .before .before .before .before .before .before .before .next .ensures) (c .before .before .before .before .before .before .before .before .token .given .0 .0) (c .before .before .before .before .before .before .before .before .token .given .1) (c .before .before .before .before .before .if1 .left), c .before .before .before .before .before .before .before .before .before .before .before .loop .inv .1), search needs)
 
 pub list-tokens-spec : {M : Type 1} → statement M
 list-tokens-spec =

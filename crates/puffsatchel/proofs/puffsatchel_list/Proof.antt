@@ -1,9 +1,31 @@
-use mathlib.Core.Path.{ap, _∙_}
+use mathlib.Core.Path.{refl, sym, ap, _∙_}
 use borrow.Author.Needs.{needs}
-use Rattle.answers.specs.Told.{ofListed}
+use lib.ListN.{length}
 use Rattle.answers.proofs.Promises.{tells}
+use Rattle.answers.proofs.Readings.{left-none, left-one}
+use Rattle.answers.specs.Told.{ofListed}
+use Rattle.listing.specs.Listing.{listOf, storedOf}
+use Rattle.readers.specs.declared.reading.Reading.{Reading}
 use Rattle.puffsatchel.proofs.puffsatchel_list.Statement.{statement}
 use Rattle.puffsatchel.proofs.puffsatchel_list.Tie as tie
+
+reading-of-requires : tie.Need-reading-of-requires
+reading-of-requires c κs = search needs
+
+enum-known-known : tie.Need-enum-known-known
+enum-known-known c = search needs
+
+enum-told : tie.Need-enum-told
+enum-told c = search needs
+
+point-requires : tie.Need-point-requires
+point-requires c κs = search needs
+
+tell-requires : tie.Need-tell-requires
+tell-requires c κs = search needs
+
+returns : tie.Need-returns
+returns c = left-none (c .before .before .before .before .before .before .before .before .args .reading) (λ (g : Reading). ofListed (listOf g (c .before .before .before .before .before .before .before .before .args .source .now) (length (c .before .before .before .before .before .before .before .before .args .store .now)))) _ _ (λ (g : Reading). storedOf g (c .before .before .before .before .before .before .before .before .args .source .now) (length (c .before .before .before .before .before .before .before .before .args .store .now))) (c .before .before .before .before .before .before .before .before .args .store .now) _ (sym (c .before .before .before .enum-told .given .1) ∙ c .before .before .before .before .before .reading-of .ensures) (tells _ _ _ _ (c .tell .ensures) (c .before .before .point .ensures)) refl
 
 list-requires : tie.Need-list-requires
 list-requires c κs = search needs
@@ -11,15 +33,27 @@ list-requires c κs = search needs
 of-listed-requires : tie.Need-of-listed-requires
 of-listed-requires c κs = search needs
 
-tell-requires : tie.Need-tell-requires
-tell-requires c κs = search needs
+tell-requires-2 : tie.Need-tell-requires-2
+tell-requires-2 c κs = search needs
 
 same-length : tie.Need-same-length
 same-length c = search needs
 
-returns : tie.Need-returns
-returns c = let w = tells _ _ _ _ (c .tell .ensures) (c .before .before .of-listed .ensures ∙ ap ofListed (c .before .before .before .before .before .list .ensures .0)) in (w .0, c .before .before .before .before .before .list .ensures .1, w .1)
+returns-2 : tie.Need-returns-2
+returns-2 c = left-one (c .before .before .before .before .before .before .before .before .before .before .before .before .before .args .reading) (λ (g : Reading). ofListed (listOf g (c .before .before .before .before .before .before .before .before .before .before .before .before .before .args .source .now) (length (c .before .before .before .before .before .before .before .before .before .before .before .before .before .args .store .now)))) _ _ (λ (g : Reading). storedOf g (c .before .before .before .before .before .before .before .before .before .before .before .before .before .args .source .now) (length (c .before .before .before .before .before .before .before .before .before .before .before .before .before .args .store .now))) (c .before .before .before .before .before .before .before .before .before .before .before .before .before .args .store .now) _ (c .before .before .before .before .before .before .before .before .known .given .0 .0) (sym (c .before .before .before .before .before .before .before .before .known .given .1) ∙ c .before .before .before .before .before .before .before .before .before .before .reading-of .ensures) (tells _ _ _ _ (c .tell2 .ensures) (c .before .before .of-listed .ensures ∙ ap ofListed (c .before .before .before .before .before .list .ensures .0))) (c .before .before .before .before .before .list .ensures .1)
 
 pub puffsatchel-list-spec : {M : Type 1} → statement M
 puffsatchel-list-spec =
-    tie.close (tie.spec list-requires of-listed-requires tell-requires same-length returns)
+    tie.close
+    (tie.spec
+    reading-of-requires
+    enum-known-known
+    enum-told
+    point-requires
+    tell-requires
+    returns
+    list-requires
+    of-listed-requires
+    tell-requires-2
+    same-length
+    returns-2)

@@ -4,11 +4,11 @@ use mathlib.Core.Path.{_≡_, refl, sym, ap, _∙_}
 use native.Mathlib.Omega.{arith}
 use borrow.Author.Needs.{needs}
 use lib.ListN.{length}
-use Rattle.readers.specs.Rules.{base}
+use Rattle.readers.specs.Rules.{rulesOf}
 use Rattle.templates.proofs.Turns.{after-deep, after-got, after-refused, body-close, body-down, body-end, body-other, body-up, body-within, deep-none, deep-some, down-is, reached-past, reached-room, token-deep, token-end, token-plain}
 use Rattle.templates.specs.Body.{bodyOf, templateOf, tokenOf}
 use Rattle.text.proofs.Decode.{step-none, step-one}
-use Rattle.text.specs.Utf8.{first, rest}
+use Rattle.text.specs.Utf8.{rest}
 use Rattle.token.specs.Reads.{reachedOf}
 use Prim.Native.Nat.{ℕ, _<_}
 use borrow.Fn.Kinds.{In}
@@ -29,10 +29,10 @@ use Rattle.templates.proofs.+read_template+read_token.{statement}
 use Rattle.templates.proofs.+read_template+read_token.Tie.{close}
 
 abbrev μ-read-template : Measures 1 read-template-kinds.ps ℕ
-μ-read-template κs a = 2 * a .1 .1 .1 .0 + 1
+μ-read-template κs a = 2 * a .1 .1 .1 .1 .0 + 1
 
 abbrev μ-read-token : Measures 1 read-token-kinds.ps ℕ
-μ-read-token κs a = 2 * a .1 .1 .0
+μ-read-token κs a = 2 * a .1 .1 .1 .0
 
 abbrev read-template-at : ℕ → In 1 read-template-kinds.ps
 read-template-at t =
@@ -55,10 +55,10 @@ read-token-below t =
     and 1 read-token-kinds.ps (falls 1 read-token-kinds.ps _<_ μ-read-token t) read-token.Pre
 
 abbrev read-template-Inv-loop : read-template-lts.InvT-loop
-read-template-Inv-loop s start at depth p₀ level₀ p level = (bodyOf base (tokenOf base depth) start 0 (rest s p) p level ≡ templateOf base (tokenOf base depth) start (rest s at) at) × (level < 4294967296)
+read-template-Inv-loop s reading start at depth p₀ level₀ p level = (bodyOf (rulesOf reading) (tokenOf (rulesOf reading) depth) start 0 (rest s p) p level ≡ templateOf (rulesOf reading) (tokenOf (rulesOf reading) depth) start (rest s at) at) × (level < 4294967296)
 
 abbrev read-template-μ-loop : read-template-lts.MeasureT-loop
-read-template-μ-loop s start at depth p₀ level₀ p level = length s - p
+read-template-μ-loop s reading start at depth p₀ level₀ p level = length s - p
 
 read-template-loop-holds : (t : ℕ) → read-template-lts.Need-loop-holds (
   scalar-at-reads.Asked,
@@ -155,7 +155,7 @@ read-template-returns : (t : ℕ) → read-template-lts.Need-returns (
   refused-reads.Asked,
   refused-reads.Learnt,
 ) (read-template-at t) read-template.Post read-template-Inv-loop read-template-μ-loop
-read-template-returns t c = c .got .ensures ∙ body-end (tokenOf base (c .before .before .before .before .before .before .args .depth)) (c .before .before .before .before .before .before .args .start) (c .before .before .before .before .before .before .args .s .now) (c .before .before .before .before .loop .p) (c .before .before .before .before .loop .level) (step-none (c .before .before .before .before .before .before .args .s .now) (c .before .before .before .before .loop .p) (sym (c .before .before .before .scalar-at .ensures) ∙ c .before .enum-told .given .1)) ∙ c .before .before .before .before .loop .inv .0
+read-template-returns t c = c .got .ensures ∙ body-end (c .before .before .before .before .before .before .args .reading) (tokenOf (rulesOf (c .before .before .before .before .before .before .args .reading)) (c .before .before .before .before .before .before .args .depth)) (c .before .before .before .before .before .before .args .start) (c .before .before .before .before .before .before .args .s .now) (c .before .before .before .before .loop .p) (c .before .before .before .before .loop .level) (step-none (c .before .before .before .before .before .before .args .s .now) (c .before .before .before .before .loop .p) (sym (c .before .before .before .scalar-at .ensures) ∙ c .before .enum-told .given .1)) ∙ c .before .before .before .before .loop .inv .0
 
 read-template-got-requires-2 : (t : ℕ) → read-template-lts.Need-got-requires-2 (
   scalar-at-reads.Asked,
@@ -187,7 +187,7 @@ read-template-returns-2 : (t : ℕ) → read-template-lts.Need-returns-2 (
   refused-reads.Asked,
   refused-reads.Learnt,
 ) (read-template-at t) read-template.Post read-template-Inv-loop read-template-μ-loop
-read-template-returns-2 t c = c .got2 .ensures ∙ body-close (tokenOf base (c .before .before .before .before .before .before .before .before .before .args .depth)) (c .before .before .before .before .before .before .before .before .before .args .start) (c .before .before .before .before .before .before .before .before .before .args .s .now) (c .before .before .before .before .before .before .before .loop .p) (c .before .before .before .before .before .before .before .loop .level) (c .before .before .before .before .value .given .0 .0) (c .before .before .before .before .value .given .0 .1 .0) (step-one (c .before .before .before .before .before .before .before .before .before .args .s .now) (c .before .before .before .before .before .before .before .loop .p) (c .before .before .before .before .value .given .0 .0) (c .before .before .before .before .value .given .0 .1 .0) (sym (c .before .before .before .before .before .before .scalar-at .ensures) ∙ c .before .before .before .before .value .given .1)) (c .before .before .if1 .taken) (c .before .if2 .taken) ∙ c .before .before .before .before .before .before .before .loop .inv .0
+read-template-returns-2 t c = c .got2 .ensures ∙ body-close (c .before .before .before .before .before .before .before .before .before .args .reading) (tokenOf (rulesOf (c .before .before .before .before .before .before .before .before .before .args .reading)) (c .before .before .before .before .before .before .before .before .before .args .depth)) (c .before .before .before .before .before .before .before .before .before .args .start) (c .before .before .before .before .before .before .before .before .before .args .s .now) (c .before .before .before .before .before .before .before .loop .p) (c .before .before .before .before .before .before .before .loop .level) (c .before .before .before .before .value .given .0 .0) (c .before .before .before .before .value .given .0 .1 .0) (step-one (c .before .before .before .before .before .before .before .before .before .args .s .now) (c .before .before .before .before .before .before .before .loop .p) (c .before .before .before .before .value .given .0 .0) (c .before .before .before .before .value .given .0 .1 .0) (sym (c .before .before .before .before .before .before .scalar-at .ensures) ∙ c .before .before .before .before .value .given .1)) (c .before .before .if1 .taken) (c .before .if2 .taken) ∙ c .before .before .before .before .before .before .before .loop .inv .0
 
 read-template-loop-less : (t : ℕ) → read-template-lts.Need-loop-less (
   scalar-at-reads.Asked,
@@ -219,7 +219,7 @@ read-template-loop-again : (t : ℕ) → read-template-lts.Need-loop-again (
   refused-reads.Asked,
   refused-reads.Learnt,
 ) (read-template-at t) read-template.Post read-template-Inv-loop read-template-μ-loop
-read-template-loop-again t c = (body-within (tokenOf base (c .before .before .before .before .before .before .before .before .args .depth)) (c .before .before .before .before .before .before .before .before .args .start) (c .before .before .before .before .before .before .before .before .args .s .now) (c .before .before .before .before .before .before .loop .p) (c .before .before .before .before .before .before .loop .level) (c .before .before .before .value .given .0 .0) (c .before .before .before .value .given .0 .1 .0) (step-one (c .before .before .before .before .before .before .before .before .args .s .now) (c .before .before .before .before .before .before .loop .p) (c .before .before .before .value .given .0 .0) (c .before .before .before .value .given .0 .1 .0) (sym (c .before .before .before .before .before .scalar-at .ensures) ∙ c .before .before .before .value .given .1)) (c .before .if1 .taken) (c .if2 .left) ∙ c .before .before .before .before .before .before .loop .inv .0, c .before .before .before .before .before .before .loop .inv .1)
+read-template-loop-again t c = (body-within (c .before .before .before .before .before .before .before .before .args .reading) (tokenOf (rulesOf (c .before .before .before .before .before .before .before .before .args .reading)) (c .before .before .before .before .before .before .before .before .args .depth)) (c .before .before .before .before .before .before .before .before .args .start) (c .before .before .before .before .before .before .before .before .args .s .now) (c .before .before .before .before .before .before .loop .p) (c .before .before .before .before .before .before .loop .level) (c .before .before .before .value .given .0 .0) (c .before .before .before .value .given .0 .1 .0) (step-one (c .before .before .before .before .before .before .before .before .args .s .now) (c .before .before .before .before .before .before .loop .p) (c .before .before .before .value .given .0 .0) (c .before .before .before .value .given .0 .1 .0) (sym (c .before .before .before .before .before .scalar-at .ensures) ∙ c .before .before .before .value .given .1)) (c .before .if1 .taken) (c .if2 .left) ∙ c .before .before .before .before .before .before .loop .inv .0, c .before .before .before .before .before .before .loop .inv .1)
 
 read-template-wrapping-add-u32-requires :
     (t : ℕ) → read-template-lts.Need-wrapping-add-u32-requires (
@@ -268,7 +268,7 @@ read-template-loop-again-2 : (t : ℕ) → read-template-lts.Need-loop-again-2 (
   refused-reads.Asked,
   refused-reads.Learnt,
 ) (read-template-at t) read-template.Post read-template-Inv-loop read-template-μ-loop
-read-template-loop-again-2 t c = (ap (bodyOf base (tokenOf base (c .before .before .before .before .before .before .before .before .before .args .depth)) (c .before .before .before .before .before .before .before .before .before .args .start) 0 (rest (c .before .before .before .before .before .before .before .before .before .args .s .now) (c .before .before .before .before .value .given .0 .1 .0)) (c .before .before .before .before .value .given .0 .1 .0)) (c .wrapping-add-u32 .ensures) ∙ body-up (tokenOf base (c .before .before .before .before .before .before .before .before .before .args .depth)) (c .before .before .before .before .before .before .before .before .before .args .start) (c .before .before .before .before .before .before .before .before .before .args .s .now) (c .before .before .before .before .before .before .before .loop .p) (c .before .before .before .before .before .before .before .loop .level) (c .before .before .before .before .value .given .0 .0) (c .before .before .before .before .value .given .0 .1 .0) (step-one (c .before .before .before .before .before .before .before .before .before .args .s .now) (c .before .before .before .before .before .before .before .loop .p) (c .before .before .before .before .value .given .0 .0) (c .before .before .before .before .value .given .0 .1 .0) (sym (c .before .before .before .before .before .before .scalar-at .ensures) ∙ c .before .before .before .before .value .given .1)) (c .before .if3 .taken) ∙ c .before .before .before .before .before .before .before .loop .inv .0, omega arith)
+read-template-loop-again-2 t c = (ap (bodyOf (rulesOf (c .before .before .before .before .before .before .before .before .before .args .reading)) (tokenOf (rulesOf (c .before .before .before .before .before .before .before .before .before .args .reading)) (c .before .before .before .before .before .before .before .before .before .args .depth)) (c .before .before .before .before .before .before .before .before .before .args .start) 0 (rest (c .before .before .before .before .before .before .before .before .before .args .s .now) (c .before .before .before .before .value .given .0 .1 .0)) (c .before .before .before .before .value .given .0 .1 .0)) (c .wrapping-add-u32 .ensures) ∙ body-up (c .before .before .before .before .before .before .before .before .before .args .reading) (tokenOf (rulesOf (c .before .before .before .before .before .before .before .before .before .args .reading)) (c .before .before .before .before .before .before .before .before .before .args .depth)) (c .before .before .before .before .before .before .before .before .before .args .start) (c .before .before .before .before .before .before .before .before .before .args .s .now) (c .before .before .before .before .before .before .before .loop .p) (c .before .before .before .before .before .before .before .loop .level) (c .before .before .before .before .value .given .0 .0) (c .before .before .before .before .value .given .0 .1 .0) (step-one (c .before .before .before .before .before .before .before .before .before .args .s .now) (c .before .before .before .before .before .before .before .loop .p) (c .before .before .before .before .value .given .0 .0) (c .before .before .before .before .value .given .0 .1 .0) (sym (c .before .before .before .before .before .before .scalar-at .ensures) ∙ c .before .before .before .before .value .given .1)) (c .before .if3 .taken) ∙ c .before .before .before .before .before .before .before .loop .inv .0, omega arith)
 
 read-template-wrapping-sub-u32-requires :
     (t : ℕ) → read-template-lts.Need-wrapping-sub-u32-requires (
@@ -317,7 +317,7 @@ read-template-loop-again-3 : (t : ℕ) → read-template-lts.Need-loop-again-3 (
   refused-reads.Asked,
   refused-reads.Learnt,
 ) (read-template-at t) read-template.Post read-template-Inv-loop read-template-μ-loop
-read-template-loop-again-3 t c = (ap (bodyOf base (tokenOf base (c .before .before .before .before .before .before .before .before .before .before .args .depth)) (c .before .before .before .before .before .before .before .before .before .before .args .start) 0 (rest (c .before .before .before .before .before .before .before .before .before .before .args .s .now) (c .before .before .before .before .before .value .given .0 .1 .0)) (c .before .before .before .before .before .value .given .0 .1 .0)) (down-is (c .before .before .before .before .before .before .before .before .loop .level) (c .wrapping-sub-u32 .result) (c .before .before .before .before .before .before .before .before .loop .inv .1) (omega (arith, c .wrapping-sub-u32 .ok)) (c .wrapping-sub-u32 .ensures)) ∙ body-down (tokenOf base (c .before .before .before .before .before .before .before .before .before .before .args .depth)) (c .before .before .before .before .before .before .before .before .before .before .args .start) (c .before .before .before .before .before .before .before .before .before .before .args .s .now) (c .before .before .before .before .before .before .before .before .loop .p) (c .before .before .before .before .before .before .before .before .loop .level) (c .before .before .before .before .before .value .given .0 .0) (c .before .before .before .before .before .value .given .0 .1 .0) (step-one (c .before .before .before .before .before .before .before .before .before .before .args .s .now) (c .before .before .before .before .before .before .before .before .loop .p) (c .before .before .before .before .before .value .given .0 .0) (c .before .before .before .before .before .value .given .0 .1 .0) (sym (c .before .before .before .before .before .before .before .scalar-at .ensures) ∙ c .before .before .before .before .before .value .given .1)) (c .before .if4 .taken) ∙ c .before .before .before .before .before .before .before .before .loop .inv .0, omega arith)
+read-template-loop-again-3 t c = (ap (bodyOf (rulesOf (c .before .before .before .before .before .before .before .before .before .before .args .reading)) (tokenOf (rulesOf (c .before .before .before .before .before .before .before .before .before .before .args .reading)) (c .before .before .before .before .before .before .before .before .before .before .args .depth)) (c .before .before .before .before .before .before .before .before .before .before .args .start) 0 (rest (c .before .before .before .before .before .before .before .before .before .before .args .s .now) (c .before .before .before .before .before .value .given .0 .1 .0)) (c .before .before .before .before .before .value .given .0 .1 .0)) (down-is (c .before .before .before .before .before .before .before .before .loop .level) (c .wrapping-sub-u32 .result) (c .before .before .before .before .before .before .before .before .loop .inv .1) (omega (arith, c .wrapping-sub-u32 .ok)) (c .wrapping-sub-u32 .ensures)) ∙ body-down (c .before .before .before .before .before .before .before .before .before .before .args .reading) (tokenOf (rulesOf (c .before .before .before .before .before .before .before .before .before .before .args .reading)) (c .before .before .before .before .before .before .before .before .before .before .args .depth)) (c .before .before .before .before .before .before .before .before .before .before .args .start) (c .before .before .before .before .before .before .before .before .before .before .args .s .now) (c .before .before .before .before .before .before .before .before .loop .p) (c .before .before .before .before .before .before .before .before .loop .level) (c .before .before .before .before .before .value .given .0 .0) (c .before .before .before .before .before .value .given .0 .1 .0) (step-one (c .before .before .before .before .before .before .before .before .before .before .args .s .now) (c .before .before .before .before .before .before .before .before .loop .p) (c .before .before .before .before .before .value .given .0 .0) (c .before .before .before .before .before .value .given .0 .1 .0) (sym (c .before .before .before .before .before .before .before .scalar-at .ensures) ∙ c .before .before .before .before .before .value .given .1)) (c .before .if4 .taken) ∙ c .before .before .before .before .before .before .before .before .loop .inv .0, omega arith)
 
 read-template-read-token-requires : (t : ℕ) → read-template-lts.Need-read-token-requires (
   scalar-at-reads.Asked,
@@ -365,7 +365,7 @@ read-template-loop-less-4 : (t : ℕ) → read-template-lts.Need-loop-less-4 (
   refused-reads.Asked,
   refused-reads.Learnt,
 ) (read-template-at t) read-template.Post read-template-Inv-loop read-template-μ-loop
-read-template-loop-less-4 t c = let e = ap reachedOf (c .before .token .given .1) in omega (arith, reached-past (c .before .before .before .before .before .before .before .before .before .before .before .before .before .before .args .depth) (c .before .before .before .before .before .before .before .before .before .before .before .before .before .before .args .start) (c .before .before .before .before .before .before .before .before .before .before .before .before .before .before .args .s .now) (c .before .before .before .before .before .before .before .before .before .before .before .before .loop .p) (c .before .before .before .before .before .before .before .before .before .before .before .before .loop .level) (c .before .before .before .before .before .before .before .before .before .value .given .0 .0) (c .before .before .before .before .before .before .before .before .before .value .given .0 .1 .0) (step-one (c .before .before .before .before .before .before .before .before .before .before .before .before .before .before .args .s .now) (c .before .before .before .before .before .before .before .before .before .before .before .before .loop .p) (c .before .before .before .before .before .before .before .before .before .value .given .0 .0) (c .before .before .before .before .before .before .before .before .before .value .given .0 .1 .0) (sym (c .before .before .before .before .before .before .before .before .before .before .before .scalar-at .ensures) ∙ c .before .before .before .before .before .before .before .before .before .value .given .1)) (c .before .before .before .before .if5 .taken) (c .before .before .before .read-token .result) (c .before .before .before .read-token .ensures), reached-room (c .before .before .before .before .before .before .before .before .before .before .before .before .before .before .args .depth) (c .before .before .before .before .before .before .before .before .before .before .before .before .before .before .args .start) (c .before .before .before .before .before .before .before .before .before .before .before .before .before .before .args .s .now) (c .before .before .before .before .before .before .before .before .before .before .before .before .loop .p) (c .before .before .before .before .before .before .before .before .before .before .before .before .loop .level) (c .before .before .before .before .before .before .before .before .before .value .given .0 .0) (c .before .before .before .before .before .before .before .before .before .value .given .0 .1 .0) (step-one (c .before .before .before .before .before .before .before .before .before .before .before .before .before .before .args .s .now) (c .before .before .before .before .before .before .before .before .before .before .before .before .loop .p) (c .before .before .before .before .before .before .before .before .before .value .given .0 .0) (c .before .before .before .before .before .before .before .before .before .value .given .0 .1 .0) (sym (c .before .before .before .before .before .before .before .before .before .before .before .scalar-at .ensures) ∙ c .before .before .before .before .before .before .before .before .before .value .given .1)) (c .before .before .before .before .if5 .taken) (c .before .before .before .read-token .result) (c .before .before .before .read-token .ensures))
+read-template-loop-less-4 t c = let e = ap reachedOf (c .before .token .given .1) in omega (arith, reached-past (c .before .before .before .before .before .before .before .before .before .before .before .before .before .before .args .reading) (c .before .before .before .before .before .before .before .before .before .before .before .before .before .before .args .depth) (c .before .before .before .before .before .before .before .before .before .before .before .before .before .before .args .start) (c .before .before .before .before .before .before .before .before .before .before .before .before .before .before .args .s .now) (c .before .before .before .before .before .before .before .before .before .before .before .before .loop .p) (c .before .before .before .before .before .before .before .before .before .before .before .before .loop .level) (c .before .before .before .before .before .before .before .before .before .value .given .0 .0) (c .before .before .before .before .before .before .before .before .before .value .given .0 .1 .0) (step-one (c .before .before .before .before .before .before .before .before .before .before .before .before .before .before .args .s .now) (c .before .before .before .before .before .before .before .before .before .before .before .before .loop .p) (c .before .before .before .before .before .before .before .before .before .value .given .0 .0) (c .before .before .before .before .before .before .before .before .before .value .given .0 .1 .0) (sym (c .before .before .before .before .before .before .before .before .before .before .before .scalar-at .ensures) ∙ c .before .before .before .before .before .before .before .before .before .value .given .1)) (c .before .before .before .before .if5 .taken) (c .before .before .before .read-token .result) (c .before .before .before .read-token .ensures), reached-room (c .before .before .before .before .before .before .before .before .before .before .before .before .before .before .args .reading) (c .before .before .before .before .before .before .before .before .before .before .before .before .before .before .args .depth) (c .before .before .before .before .before .before .before .before .before .before .before .before .before .before .args .start) (c .before .before .before .before .before .before .before .before .before .before .before .before .before .before .args .s .now) (c .before .before .before .before .before .before .before .before .before .before .before .before .loop .p) (c .before .before .before .before .before .before .before .before .before .before .before .before .loop .level) (c .before .before .before .before .before .before .before .before .before .value .given .0 .0) (c .before .before .before .before .before .before .before .before .before .value .given .0 .1 .0) (step-one (c .before .before .before .before .before .before .before .before .before .before .before .before .before .before .args .s .now) (c .before .before .before .before .before .before .before .before .before .before .before .before .loop .p) (c .before .before .before .before .before .before .before .before .before .value .given .0 .0) (c .before .before .before .before .before .before .before .before .before .value .given .0 .1 .0) (sym (c .before .before .before .before .before .before .before .before .before .before .before .scalar-at .ensures) ∙ c .before .before .before .before .before .before .before .before .before .value .given .1)) (c .before .before .before .before .if5 .taken) (c .before .before .before .read-token .result) (c .before .before .before .read-token .ensures))
 
 read-template-loop-again-4 : (t : ℕ) → read-template-lts.Need-loop-again-4 (
   scalar-at-reads.Asked,
@@ -381,7 +381,7 @@ read-template-loop-again-4 : (t : ℕ) → read-template-lts.Need-loop-again-4 (
   refused-reads.Asked,
   refused-reads.Learnt,
 ) (read-template-at t) read-template.Post read-template-Inv-loop read-template-μ-loop
-read-template-loop-again-4 t c = (after-got (c .before .before .before .before .before .before .before .before .before .before .before .before .before .before .args .depth) (c .before .before .before .before .before .before .before .before .before .before .before .before .before .before .args .start) (c .before .before .before .before .before .before .before .before .before .before .before .before .before .before .args .s .now) (c .before .before .before .before .before .before .before .before .before .before .before .before .loop .p) (c .before .before .before .before .before .before .before .before .before .before .before .before .loop .level) (c .before .before .before .before .before .before .before .before .before .value .given .0 .0) (c .before .before .before .before .before .before .before .before .before .value .given .0 .1 .0) (step-one (c .before .before .before .before .before .before .before .before .before .before .before .before .before .before .args .s .now) (c .before .before .before .before .before .before .before .before .before .before .before .before .loop .p) (c .before .before .before .before .before .before .before .before .before .value .given .0 .0) (c .before .before .before .before .before .before .before .before .before .value .given .0 .1 .0) (sym (c .before .before .before .before .before .before .before .before .before .before .before .scalar-at .ensures) ∙ c .before .before .before .before .before .before .before .before .before .value .given .1)) (c .before .before .before .before .if5 .taken) (c .before .before .before .read-token .result) (c .before .before .before .read-token .ensures) (c .before .token .given .0 .0) (c .before .token .given .1) ∙ c .before .before .before .before .before .before .before .before .before .before .before .before .loop .inv .0, c .before .before .before .before .before .before .before .before .before .before .before .before .loop .inv .1)
+read-template-loop-again-4 t c = (after-got (c .before .before .before .before .before .before .before .before .before .before .before .before .before .before .args .reading) (c .before .before .before .before .before .before .before .before .before .before .before .before .before .before .args .depth) (c .before .before .before .before .before .before .before .before .before .before .before .before .before .before .args .start) (c .before .before .before .before .before .before .before .before .before .before .before .before .before .before .args .s .now) (c .before .before .before .before .before .before .before .before .before .before .before .before .loop .p) (c .before .before .before .before .before .before .before .before .before .before .before .before .loop .level) (c .before .before .before .before .before .before .before .before .before .value .given .0 .0) (c .before .before .before .before .before .before .before .before .before .value .given .0 .1 .0) (step-one (c .before .before .before .before .before .before .before .before .before .before .before .before .before .before .args .s .now) (c .before .before .before .before .before .before .before .before .before .before .before .before .loop .p) (c .before .before .before .before .before .before .before .before .before .value .given .0 .0) (c .before .before .before .before .before .before .before .before .before .value .given .0 .1 .0) (sym (c .before .before .before .before .before .before .before .before .before .before .before .scalar-at .ensures) ∙ c .before .before .before .before .before .before .before .before .before .value .given .1)) (c .before .before .before .before .if5 .taken) (c .before .before .before .read-token .result) (c .before .before .before .read-token .ensures) (c .before .token .given .0 .0) (c .before .token .given .1) ∙ c .before .before .before .before .before .before .before .before .before .before .before .before .loop .inv .0, c .before .before .before .before .before .before .before .before .before .before .before .before .loop .inv .1)
 
 read-template-enum-known-refusal : (t : ℕ) → read-template-lts.Need-enum-known-refusal (
   scalar-at-reads.Asked,
@@ -429,7 +429,7 @@ read-template-returns-3 : (t : ℕ) → read-template-lts.Need-returns-3 (
   refused-reads.Asked,
   refused-reads.Learnt,
 ) (read-template-at t) read-template.Post read-template-Inv-loop read-template-μ-loop
-read-template-returns-3 t c = c .refused .ensures ∙ after-deep (c .before .before .before .before .before .before .before .before .before .before .before .before .before .before .before .before .before .args .depth) (c .before .before .before .before .before .before .before .before .before .before .before .before .before .before .before .before .before .args .start) (c .before .before .before .before .before .before .before .before .before .before .before .before .before .before .before .before .before .args .s .now) (c .before .before .before .before .before .before .before .before .before .before .before .before .before .before .before .loop .p) (c .before .before .before .before .before .before .before .before .before .before .before .before .before .before .before .loop .level) (c .before .before .before .before .before .before .before .before .before .before .before .before .value .given .0 .0) (c .before .before .before .before .before .before .before .before .before .before .before .before .value .given .0 .1 .0) (step-one (c .before .before .before .before .before .before .before .before .before .before .before .before .before .before .before .before .before .args .s .now) (c .before .before .before .before .before .before .before .before .before .before .before .before .before .before .before .loop .p) (c .before .before .before .before .before .before .before .before .before .before .before .before .value .given .0 .0) (c .before .before .before .before .before .before .before .before .before .before .before .before .value .given .0 .1 .0) (sym (c .before .before .before .before .before .before .before .before .before .before .before .before .before .before .scalar-at .ensures) ∙ c .before .before .before .before .before .before .before .before .before .before .before .before .value .given .1)) (c .before .before .before .before .before .before .before .if5 .taken) (c .before .before .before .before .before .before .read-token .result) (c .before .before .before .before .before .before .read-token .ensures) (c .before .before .before .before .refusal .given .0 .0) (c .before .before .before .before .refusal .given .1) (c .before .if6 .taken) ∙ c .before .before .before .before .before .before .before .before .before .before .before .before .before .before .before .loop .inv .0
+read-template-returns-3 t c = c .refused .ensures ∙ after-deep (c .before .before .before .before .before .before .before .before .before .before .before .before .before .before .before .before .before .args .reading) (c .before .before .before .before .before .before .before .before .before .before .before .before .before .before .before .before .before .args .depth) (c .before .before .before .before .before .before .before .before .before .before .before .before .before .before .before .before .before .args .start) (c .before .before .before .before .before .before .before .before .before .before .before .before .before .before .before .before .before .args .s .now) (c .before .before .before .before .before .before .before .before .before .before .before .before .before .before .before .loop .p) (c .before .before .before .before .before .before .before .before .before .before .before .before .before .before .before .loop .level) (c .before .before .before .before .before .before .before .before .before .before .before .before .value .given .0 .0) (c .before .before .before .before .before .before .before .before .before .before .before .before .value .given .0 .1 .0) (step-one (c .before .before .before .before .before .before .before .before .before .before .before .before .before .before .before .before .before .args .s .now) (c .before .before .before .before .before .before .before .before .before .before .before .before .before .before .before .loop .p) (c .before .before .before .before .before .before .before .before .before .before .before .before .value .given .0 .0) (c .before .before .before .before .before .before .before .before .before .before .before .before .value .given .0 .1 .0) (sym (c .before .before .before .before .before .before .before .before .before .before .before .before .before .before .scalar-at .ensures) ∙ c .before .before .before .before .before .before .before .before .before .before .before .before .value .given .1)) (c .before .before .before .before .before .before .before .if5 .taken) (c .before .before .before .before .before .before .read-token .result) (c .before .before .before .before .before .before .read-token .ensures) (c .before .before .before .before .refusal .given .0 .0) (c .before .before .before .before .refusal .given .1) (c .before .if6 .taken) ∙ c .before .before .before .before .before .before .before .before .before .before .before .before .before .before .before .loop .inv .0
 
 read-template-loop-less-5 : (t : ℕ) → read-template-lts.Need-loop-less-5 (
   scalar-at-reads.Asked,
@@ -445,7 +445,7 @@ read-template-loop-less-5 : (t : ℕ) → read-template-lts.Need-loop-less-5 (
   refused-reads.Asked,
   refused-reads.Learnt,
 ) (read-template-at t) read-template.Post read-template-Inv-loop read-template-μ-loop
-read-template-loop-less-5 t c = let e = ap reachedOf (c .before .before .before .refusal .given .1) in omega (arith, reached-past (c .before .before .before .before .before .before .before .before .before .before .before .before .before .before .before .before .args .depth) (c .before .before .before .before .before .before .before .before .before .before .before .before .before .before .before .before .args .start) (c .before .before .before .before .before .before .before .before .before .before .before .before .before .before .before .before .args .s .now) (c .before .before .before .before .before .before .before .before .before .before .before .before .before .before .loop .p) (c .before .before .before .before .before .before .before .before .before .before .before .before .before .before .loop .level) (c .before .before .before .before .before .before .before .before .before .before .before .value .given .0 .0) (c .before .before .before .before .before .before .before .before .before .before .before .value .given .0 .1 .0) (step-one (c .before .before .before .before .before .before .before .before .before .before .before .before .before .before .before .before .args .s .now) (c .before .before .before .before .before .before .before .before .before .before .before .before .before .before .loop .p) (c .before .before .before .before .before .before .before .before .before .before .before .value .given .0 .0) (c .before .before .before .before .before .before .before .before .before .before .before .value .given .0 .1 .0) (sym (c .before .before .before .before .before .before .before .before .before .before .before .before .before .scalar-at .ensures) ∙ c .before .before .before .before .before .before .before .before .before .before .before .value .given .1)) (c .before .before .before .before .before .before .if5 .taken) (c .before .before .before .before .before .read-token .result) (c .before .before .before .before .before .read-token .ensures), reached-room (c .before .before .before .before .before .before .before .before .before .before .before .before .before .before .before .before .args .depth) (c .before .before .before .before .before .before .before .before .before .before .before .before .before .before .before .before .args .start) (c .before .before .before .before .before .before .before .before .before .before .before .before .before .before .before .before .args .s .now) (c .before .before .before .before .before .before .before .before .before .before .before .before .before .before .loop .p) (c .before .before .before .before .before .before .before .before .before .before .before .before .before .before .loop .level) (c .before .before .before .before .before .before .before .before .before .before .before .value .given .0 .0) (c .before .before .before .before .before .before .before .before .before .before .before .value .given .0 .1 .0) (step-one (c .before .before .before .before .before .before .before .before .before .before .before .before .before .before .before .before .args .s .now) (c .before .before .before .before .before .before .before .before .before .before .before .before .before .before .loop .p) (c .before .before .before .before .before .before .before .before .before .before .before .value .given .0 .0) (c .before .before .before .before .before .before .before .before .before .before .before .value .given .0 .1 .0) (sym (c .before .before .before .before .before .before .before .before .before .before .before .before .before .scalar-at .ensures) ∙ c .before .before .before .before .before .before .before .before .before .before .before .value .given .1)) (c .before .before .before .before .before .before .if5 .taken) (c .before .before .before .before .before .read-token .result) (c .before .before .before .before .before .read-token .ensures))
+read-template-loop-less-5 t c = let e = ap reachedOf (c .before .before .before .refusal .given .1) in omega (arith, reached-past (c .before .before .before .before .before .before .before .before .before .before .before .before .before .before .before .before .args .reading) (c .before .before .before .before .before .before .before .before .before .before .before .before .before .before .before .before .args .depth) (c .before .before .before .before .before .before .before .before .before .before .before .before .before .before .before .before .args .start) (c .before .before .before .before .before .before .before .before .before .before .before .before .before .before .before .before .args .s .now) (c .before .before .before .before .before .before .before .before .before .before .before .before .before .before .loop .p) (c .before .before .before .before .before .before .before .before .before .before .before .before .before .before .loop .level) (c .before .before .before .before .before .before .before .before .before .before .before .value .given .0 .0) (c .before .before .before .before .before .before .before .before .before .before .before .value .given .0 .1 .0) (step-one (c .before .before .before .before .before .before .before .before .before .before .before .before .before .before .before .before .args .s .now) (c .before .before .before .before .before .before .before .before .before .before .before .before .before .before .loop .p) (c .before .before .before .before .before .before .before .before .before .before .before .value .given .0 .0) (c .before .before .before .before .before .before .before .before .before .before .before .value .given .0 .1 .0) (sym (c .before .before .before .before .before .before .before .before .before .before .before .before .before .scalar-at .ensures) ∙ c .before .before .before .before .before .before .before .before .before .before .before .value .given .1)) (c .before .before .before .before .before .before .if5 .taken) (c .before .before .before .before .before .read-token .result) (c .before .before .before .before .before .read-token .ensures), reached-room (c .before .before .before .before .before .before .before .before .before .before .before .before .before .before .before .before .args .reading) (c .before .before .before .before .before .before .before .before .before .before .before .before .before .before .before .before .args .depth) (c .before .before .before .before .before .before .before .before .before .before .before .before .before .before .before .before .args .start) (c .before .before .before .before .before .before .before .before .before .before .before .before .before .before .before .before .args .s .now) (c .before .before .before .before .before .before .before .before .before .before .before .before .before .before .loop .p) (c .before .before .before .before .before .before .before .before .before .before .before .before .before .before .loop .level) (c .before .before .before .before .before .before .before .before .before .before .before .value .given .0 .0) (c .before .before .before .before .before .before .before .before .before .before .before .value .given .0 .1 .0) (step-one (c .before .before .before .before .before .before .before .before .before .before .before .before .before .before .before .before .args .s .now) (c .before .before .before .before .before .before .before .before .before .before .before .before .before .before .loop .p) (c .before .before .before .before .before .before .before .before .before .before .before .value .given .0 .0) (c .before .before .before .before .before .before .before .before .before .before .before .value .given .0 .1 .0) (sym (c .before .before .before .before .before .before .before .before .before .before .before .before .before .scalar-at .ensures) ∙ c .before .before .before .before .before .before .before .before .before .before .before .value .given .1)) (c .before .before .before .before .before .before .if5 .taken) (c .before .before .before .before .before .read-token .result) (c .before .before .before .before .before .read-token .ensures))
 
 read-template-loop-again-5 : (t : ℕ) → read-template-lts.Need-loop-again-5 (
   scalar-at-reads.Asked,
@@ -461,7 +461,7 @@ read-template-loop-again-5 : (t : ℕ) → read-template-lts.Need-loop-again-5 (
   refused-reads.Asked,
   refused-reads.Learnt,
 ) (read-template-at t) read-template.Post read-template-Inv-loop read-template-μ-loop
-read-template-loop-again-5 t c = (after-refused (c .before .before .before .before .before .before .before .before .before .before .before .before .before .before .before .before .args .depth) (c .before .before .before .before .before .before .before .before .before .before .before .before .before .before .before .before .args .start) (c .before .before .before .before .before .before .before .before .before .before .before .before .before .before .before .before .args .s .now) (c .before .before .before .before .before .before .before .before .before .before .before .before .before .before .loop .p) (c .before .before .before .before .before .before .before .before .before .before .before .before .before .before .loop .level) (c .before .before .before .before .before .before .before .before .before .before .before .value .given .0 .0) (c .before .before .before .before .before .before .before .before .before .before .before .value .given .0 .1 .0) (step-one (c .before .before .before .before .before .before .before .before .before .before .before .before .before .before .before .before .args .s .now) (c .before .before .before .before .before .before .before .before .before .before .before .before .before .before .loop .p) (c .before .before .before .before .before .before .before .before .before .before .before .value .given .0 .0) (c .before .before .before .before .before .before .before .before .before .before .before .value .given .0 .1 .0) (sym (c .before .before .before .before .before .before .before .before .before .before .before .before .before .scalar-at .ensures) ∙ c .before .before .before .before .before .before .before .before .before .before .before .value .given .1)) (c .before .before .before .before .before .before .if5 .taken) (c .before .before .before .before .before .read-token .result) (c .before .before .before .before .before .read-token .ensures) (c .before .before .before .refusal .given .0 .0) (c .before .before .before .refusal .given .1) (c .if6 .left) ∙ c .before .before .before .before .before .before .before .before .before .before .before .before .before .before .loop .inv .0, c .before .before .before .before .before .before .before .before .before .before .before .before .before .before .loop .inv .1)
+read-template-loop-again-5 t c = (after-refused (c .before .before .before .before .before .before .before .before .before .before .before .before .before .before .before .before .args .reading) (c .before .before .before .before .before .before .before .before .before .before .before .before .before .before .before .before .args .depth) (c .before .before .before .before .before .before .before .before .before .before .before .before .before .before .before .before .args .start) (c .before .before .before .before .before .before .before .before .before .before .before .before .before .before .before .before .args .s .now) (c .before .before .before .before .before .before .before .before .before .before .before .before .before .before .loop .p) (c .before .before .before .before .before .before .before .before .before .before .before .before .before .before .loop .level) (c .before .before .before .before .before .before .before .before .before .before .before .value .given .0 .0) (c .before .before .before .before .before .before .before .before .before .before .before .value .given .0 .1 .0) (step-one (c .before .before .before .before .before .before .before .before .before .before .before .before .before .before .before .before .args .s .now) (c .before .before .before .before .before .before .before .before .before .before .before .before .before .before .loop .p) (c .before .before .before .before .before .before .before .before .before .before .before .value .given .0 .0) (c .before .before .before .before .before .before .before .before .before .before .before .value .given .0 .1 .0) (sym (c .before .before .before .before .before .before .before .before .before .before .before .before .before .scalar-at .ensures) ∙ c .before .before .before .before .before .before .before .before .before .before .before .value .given .1)) (c .before .before .before .before .before .before .if5 .taken) (c .before .before .before .before .before .read-token .result) (c .before .before .before .before .before .read-token .ensures) (c .before .before .before .refusal .given .0 .0) (c .before .before .before .refusal .given .1) (c .if6 .left) ∙ c .before .before .before .before .before .before .before .before .before .before .before .before .before .before .loop .inv .0, c .before .before .before .before .before .before .before .before .before .before .before .before .before .before .loop .inv .1)
 
 read-template-loop-less-6 : (t : ℕ) → read-template-lts.Need-loop-less-6 (
   scalar-at-reads.Asked,
@@ -493,7 +493,7 @@ read-template-loop-again-6 : (t : ℕ) → read-template-lts.Need-loop-again-6 (
   refused-reads.Asked,
   refused-reads.Learnt,
 ) (read-template-at t) read-template.Post read-template-Inv-loop read-template-μ-loop
-read-template-loop-again-6 t c = (body-other (tokenOf base (c .before .before .before .before .before .before .before .before .before .before .args .depth)) (c .before .before .before .before .before .before .before .before .before .before .args .start) (c .before .before .before .before .before .before .before .before .before .before .args .s .now) (c .before .before .before .before .before .before .before .before .loop .p) (c .before .before .before .before .before .before .before .before .loop .level) (c .before .before .before .before .before .value .given .0 .0) (c .before .before .before .before .before .value .given .0 .1 .0) (step-one (c .before .before .before .before .before .before .before .before .before .before .args .s .now) (c .before .before .before .before .before .before .before .before .loop .p) (c .before .before .before .before .before .value .given .0 .0) (c .before .before .before .before .before .value .given .0 .1 .0) (sym (c .before .before .before .before .before .before .before .scalar-at .ensures) ∙ c .before .before .before .before .before .value .given .1)) (c .before .before .before .if1 .left) (c .before .before .if3 .left) (c .before .if4 .left) (c .if5 .left) ∙ c .before .before .before .before .before .before .before .before .loop .inv .0, c .before .before .before .before .before .before .before .before .loop .inv .1)
+read-template-loop-again-6 t c = (body-other (c .before .before .before .before .before .before .before .before .before .before .args .reading) (tokenOf (rulesOf (c .before .before .before .before .before .before .before .before .before .before .args .reading)) (c .before .before .before .before .before .before .before .before .before .before .args .depth)) (c .before .before .before .before .before .before .before .before .before .before .args .start) (c .before .before .before .before .before .before .before .before .before .before .args .s .now) (c .before .before .before .before .before .before .before .before .loop .p) (c .before .before .before .before .before .before .before .before .loop .level) (c .before .before .before .before .before .value .given .0 .0) (c .before .before .before .before .before .value .given .0 .1 .0) (step-one (c .before .before .before .before .before .before .before .before .before .before .args .s .now) (c .before .before .before .before .before .before .before .before .loop .p) (c .before .before .before .before .before .value .given .0 .0) (c .before .before .before .before .before .value .given .0 .1 .0) (sym (c .before .before .before .before .before .before .before .scalar-at .ensures) ∙ c .before .before .before .before .before .value .given .1)) (c .before .before .before .if1 .left) (c .before .before .if3 .left) (c .before .if4 .left) (c .if5 .left) ∙ c .before .before .before .before .before .before .before .before .loop .inv .0, c .before .before .before .before .before .before .before .before .loop .inv .1)
 
 read-token-scalar-at-requires : (t : ℕ) → read-token-lts.Need-scalar-at-requires (
   scalar-at-reads.Asked,
@@ -563,7 +563,7 @@ read-token-returns : (t : ℕ) → read-token-lts.Need-returns (
   read-template-below t,
   read-template.Post,
 ) (read-token-at t) read-token.Post
-read-token-returns t c = c .got .ensures ∙ token-end (c .before .before .before .before .before .args .depth) (c .before .before .before .before .before .args .s .now) (c .before .before .before .before .before .args .at) (step-none (c .before .before .before .before .before .args .s .now) (c .before .before .before .before .before .args .at) (sym (c .before .before .before .scalar-at .ensures) ∙ c .before .enum-told .given .1))
+read-token-returns t c = c .got .ensures ∙ token-end (c .before .before .before .before .before .args .reading) (c .before .before .before .before .before .args .depth) (c .before .before .before .before .before .args .s .now) (c .before .before .before .before .before .args .at) (step-none (c .before .before .before .before .before .args .s .now) (c .before .before .before .before .before .args .at) (sym (c .before .before .before .scalar-at .ensures) ∙ c .before .enum-told .given .1))
 
 read-token-read-first-requires : (t : ℕ) → read-token-lts.Need-read-first-requires (
   scalar-at-reads.Asked,
@@ -591,7 +591,7 @@ read-token-returns-2 : (t : ℕ) → read-token-lts.Need-returns-2 (
   read-template-below t,
   read-template.Post,
 ) (read-token-at t) read-token.Post
-read-token-returns-2 t c = c .read-first .ensures ∙ token-plain (c .before .before .before .before .before .before .before .args .depth) (c .before .before .before .before .before .before .before .args .s .now) (c .before .before .before .before .before .before .before .args .at) (c .before .before .before .value .given .0 .0) (c .before .before .before .value .given .0 .1 .0) (step-one (c .before .before .before .before .before .before .before .args .s .now) (c .before .before .before .before .before .before .before .args .at) (c .before .before .before .value .given .0 .0) (c .before .before .before .value .given .0 .1 .0) (sym (c .before .before .before .before .before .scalar-at .ensures) ∙ c .before .before .before .value .given .1)) (c .before .if1 .taken)
+read-token-returns-2 t c = c .read-first .ensures ∙ token-plain (c .before .before .before .before .before .before .before .args .reading) (c .before .before .before .before .before .before .before .args .depth) (c .before .before .before .before .before .before .before .args .s .now) (c .before .before .before .before .before .before .before .args .at) (c .before .before .before .value .given .0 .0) (c .before .before .before .value .given .0 .1 .0) (step-one (c .before .before .before .before .before .before .before .args .s .now) (c .before .before .before .before .before .before .before .args .at) (c .before .before .before .value .given .0 .0) (c .before .before .before .value .given .0 .1 .0) (sym (c .before .before .before .before .before .scalar-at .ensures) ∙ c .before .before .before .value .given .1)) (c .before .if1 .taken)
 
 read-token-refused-requires : (t : ℕ) → read-token-lts.Need-refused-requires (
   scalar-at-reads.Asked,
@@ -619,7 +619,7 @@ read-token-returns-3 : (t : ℕ) → read-token-lts.Need-returns-3 (
   read-template-below t,
   read-template.Post,
 ) (read-token-at t) read-token.Post
-read-token-returns-3 t c = c .refused .ensures ∙ deep-none (c .before .before .before .before .before .before .before .before .args .depth) (c .before .before .before .before .before .before .before .before .args .at) (rest (c .before .before .before .before .before .before .before .before .args .s .now) (c .before .before .before .before .value .given .0 .1 .0)) (c .before .before .before .before .value .given .0 .1 .0) (c .before .if2 .taken) ∙ token-deep (c .before .before .before .before .before .before .before .before .args .depth) (c .before .before .before .before .before .before .before .before .args .s .now) (c .before .before .before .before .before .before .before .before .args .at) (c .before .before .before .before .value .given .0 .0) (c .before .before .before .before .value .given .0 .1 .0) (step-one (c .before .before .before .before .before .before .before .before .args .s .now) (c .before .before .before .before .before .before .before .before .args .at) (c .before .before .before .before .value .given .0 .0) (c .before .before .before .before .value .given .0 .1 .0) (sym (c .before .before .before .before .before .before .scalar-at .ensures) ∙ c .before .before .before .before .value .given .1)) (c .before .before .if1 .left)
+read-token-returns-3 t c = c .refused .ensures ∙ deep-none (c .before .before .before .before .before .before .before .before .args .reading) (c .before .before .before .before .before .before .before .before .args .depth) (c .before .before .before .before .before .before .before .before .args .at) (rest (c .before .before .before .before .before .before .before .before .args .s .now) (c .before .before .before .before .value .given .0 .1 .0)) (c .before .before .before .before .value .given .0 .1 .0) (c .before .if2 .taken) ∙ token-deep (c .before .before .before .before .before .before .before .before .args .reading) (c .before .before .before .before .before .before .before .before .args .depth) (c .before .before .before .before .before .before .before .before .args .s .now) (c .before .before .before .before .before .before .before .before .args .at) (c .before .before .before .before .value .given .0 .0) (c .before .before .before .before .value .given .0 .1 .0) (step-one (c .before .before .before .before .before .before .before .before .args .s .now) (c .before .before .before .before .before .before .before .before .args .at) (c .before .before .before .before .value .given .0 .0) (c .before .before .before .before .value .given .0 .1 .0) (sym (c .before .before .before .before .before .before .scalar-at .ensures) ∙ c .before .before .before .before .value .given .1)) (c .before .before .if1 .left)
 
 read-token-sub-read-template : (t : ℕ) → read-token-lts.Need-sub-read-template (
   scalar-at-reads.Asked,
@@ -661,7 +661,7 @@ read-token-returns-4 : (t : ℕ) → read-token-lts.Need-returns-4 (
   read-template-below t,
   read-template.Post,
 ) (read-token-at t) read-token.Post
-read-token-returns-4 t c = c .read-template .ensures ∙ deep-some (c .before .before .before .before .before .before .before .before .args .depth) (c .before .before .before .before .before .before .before .before .args .at) (rest (c .before .before .before .before .before .before .before .before .args .s .now) (c .before .before .before .before .value .given .0 .1 .0)) (c .before .before .before .before .value .given .0 .1 .0) (c .before .if2 .left) ∙ token-deep (c .before .before .before .before .before .before .before .before .args .depth) (c .before .before .before .before .before .before .before .before .args .s .now) (c .before .before .before .before .before .before .before .before .args .at) (c .before .before .before .before .value .given .0 .0) (c .before .before .before .before .value .given .0 .1 .0) (step-one (c .before .before .before .before .before .before .before .before .args .s .now) (c .before .before .before .before .before .before .before .before .args .at) (c .before .before .before .before .value .given .0 .0) (c .before .before .before .before .value .given .0 .1 .0) (sym (c .before .before .before .before .before .before .scalar-at .ensures) ∙ c .before .before .before .before .value .given .1)) (c .before .before .if1 .left)
+read-token-returns-4 t c = c .read-template .ensures ∙ deep-some (c .before .before .before .before .before .before .before .before .args .reading) (c .before .before .before .before .before .before .before .before .args .depth) (c .before .before .before .before .before .before .before .before .args .at) (rest (c .before .before .before .before .before .before .before .before .args .s .now) (c .before .before .before .before .value .given .0 .1 .0)) (c .before .before .before .before .value .given .0 .1 .0) (c .before .if2 .left) ∙ token-deep (c .before .before .before .before .before .before .before .before .args .reading) (c .before .before .before .before .before .before .before .before .args .depth) (c .before .before .before .before .before .before .before .before .args .s .now) (c .before .before .before .before .before .before .before .before .args .at) (c .before .before .before .before .value .given .0 .0) (c .before .before .before .before .value .given .0 .1 .0) (step-one (c .before .before .before .before .before .before .before .before .args .s .now) (c .before .before .before .before .before .before .before .before .args .at) (c .before .before .before .before .value .given .0 .0) (c .before .before .before .before .value .given .0 .1 .0) (sym (c .before .before .before .before .before .before .scalar-at .ensures) ∙ c .before .before .before .before .value .given .1)) (c .before .before .if1 .left)
 
 pub +read-template+read-token-spec : {M : Type 1} → statement M
 +read-template+read-token-spec = close μ-read-template μ-read-token (λ t. read-template-lts.spec (

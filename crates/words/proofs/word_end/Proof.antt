@@ -8,15 +8,14 @@ use Rattle.classes.specs.Classes.{isXidContinue}
 use Rattle.readers.proofs.Scans.{Goes, goes-before, goes-end, goes-on}
 use Rattle.readers.proofs.Steps.{run-no, run-yes}
 use Rattle.readers.specs.Readers.{run, runStep}
-use Rattle.readers.specs.Rules.{base}
 use Rattle.readers.specs.Scan.{Stop, scan}
 use Rattle.text.proofs.Decode.{step-none, step-one}
-use Rattle.text.specs.Utf8.{rest}
+use Rattle.text.specs.Utf8.{rest, width}
 use Rattle.words.proofs.word_end.Statement.{statement}
 use Rattle.words.proofs.word_end.Tie as tie
 
 abbrev Inv-loop : tie.InvT-loop
-Inv-loop s at p₀ p = Goes (runStep isXidContinue) tt s p (scan (runStep isXidContinue) base tt at (rest s at) at)
+Inv-loop s at p₀ p = Goes (runStep isXidContinue) tt s p (scan (runStep isXidContinue) width tt at (rest s at) at)
 
 abbrev μ-loop : tie.MeasureT-loop
 μ-loop s at p₀ p = length s - p

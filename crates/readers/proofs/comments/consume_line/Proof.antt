@@ -8,15 +8,14 @@ use borrow.Author.Tests.{eq-eqb, ne-eqb}
 use Rattle.readers.proofs.Scans.{Goes, goes-before, goes-end, goes-on}
 use Rattle.readers.proofs.Steps.{run-no, run-yes}
 use Rattle.readers.specs.Readers.{inLine, run, runStep}
-use Rattle.readers.specs.Rules.{base}
 use Rattle.readers.specs.Scan.{Stop, scan}
 use Rattle.text.proofs.Decode.{step-none, step-one}
-use Rattle.text.specs.Utf8.{rest}
+use Rattle.text.specs.Utf8.{rest, width}
 use Rattle.readers.proofs.comments.consume_line.Statement.{statement}
 use Rattle.readers.proofs.comments.consume_line.Tie as tie
 
 abbrev Inv-loop : tie.InvT-loop
-Inv-loop s at p₀ p = Goes (runStep inLine) tt s p (scan (runStep inLine) base tt at (rest s at) at)
+Inv-loop s at p₀ p = Goes (runStep inLine) tt s p (scan (runStep inLine) width tt at (rest s at) at)
 
 abbrev μ-loop : tie.MeasureT-loop
 μ-loop s at p₀ p = length s - p
