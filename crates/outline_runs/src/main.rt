@@ -1,9 +1,9 @@
 // Demand 3 run beside its proof: random sources over tricky characters, and damaged copies of the rule files on standard input, are
 // outlined twice and listed, and what the theorems say is tested on each.
 mod sources;
+
 ghost use Prim.Native.Nat.{_+_, _≤_, _<_};
 ghost use lib.ListN.{length};
-
 use listing::Listed;
 use outline::Outlined;
 use readers::Comments;

@@ -2,13 +2,13 @@
 // print is what the Rust printed: `stdin` and `stdout` are rust/recorded/look.frames and look.answers.
 mod calls;
 mod lines;
+
 ghost use Prim.Native.Nat.{_≤_, _<_};
 ghost use mathlib.Core.Path.{_≡_};
 ghost use lib.ListN.{length};
-
+use listing::Listed;
 use readers::Comments;
 use readers::Reading;
-use listing::Listed;
 
 // The bytes of a frame's source and of its calls, and whether white space is kept.
 enum Frame {
