@@ -20,7 +20,7 @@ extern "C" {
 #endif
 
 /* The version of this page; puffsatchel_version() is that of the archive. */
-#define PUFFSATCHEL_VERSION 3
+#define PUFFSATCHEL_VERSION 4
 
 /* Sizes, for memory that is always enough. */
 enum {
@@ -121,11 +121,12 @@ enum {
     PUFFSATCHEL_ACCEPTED = 0,
 
     /* A source, a place, memory. */
-    PUFFSATCHEL_TOO_LONG = 1,      /* over 65,536 bytes; span 0..0 */
-    PUFFSATCHEL_ILL_FORMED = 2,    /* no UTF-8; a point at the first bad sequence */
-    PUFFSATCHEL_NO_ROOM = 3,       /* no place for the token of the span; 0..0 for what is written whole or not at all */
-    PUFFSATCHEL_NO_PLACE = 4,      /* a place past the end or inside a scalar; a point there */
-    PUFFSATCHEL_NO_SUCH_FORM = 5,  /* a number that names no form of a body; 0..0 */
+    PUFFSATCHEL_TOO_LONG = 1,         /* over 65,536 bytes; span 0..0 */
+    PUFFSATCHEL_ILL_FORMED = 2,       /* no UTF-8; a point at the first bad sequence */
+    PUFFSATCHEL_NO_ROOM = 3,          /* no place for the token of the span; 0..0 for what is written whole or not at all */
+    PUFFSATCHEL_NO_PLACE = 4,         /* a place past the end or inside a scalar; a point there */
+    PUFFSATCHEL_NO_SUCH_FORM = 5,     /* a number that names no form of a body; 0..0 */
+    PUFFSATCHEL_NO_SUCH_READING = 6,  /* a number that names no reading, 0 too; 0..0 */
 
     /* A token. */
     PUFFSATCHEL_EXPECTED_ESCAPE = 10,            /* the source ends behind a backslash */
@@ -163,6 +164,17 @@ enum {
     PUFFSATCHEL_GAP = 43         /* a start other than the end before it, or an end that is not past its start */
 };
 
+/* How a source is read, which the caller names in every call that reads one: one number of or-ed names, one name for each part. In this version
+ * the part is comments alone; later parts take other bits (0x10, 0x20 ..). A number that names no reading, 0 too, is refused with 6 before all
+ * else, and nothing is written but the answer.
+ *
+ * Slash star opens a comment, star slash closes it. The crate's reading is that of the running rune; by the other a comment ends where a reader
+ * thinks that it ends. */
+enum {
+    PUFFSATCHEL_COMMENTS_CRATE = 1, /* two scalars after the opening are passed over, then the first star slash closes, as rune has it */
+    PUFFSATCHEL_COMMENTS_FIRST = 2  /* the first star slash after the opening closes */
+};
+
 /* The forms of a body: what stands between the quotes. */
 enum {
     PUFFSATCHEL_FORM_TEXT = 1,
@@ -179,20 +191,21 @@ uint32_t puffsatchel_version(void);
 uint32_t puffsatchel_test(const uint8_t *source, size_t source_len, puffsatchel_answer *answer);
 
 /* Reads the token at a place: value is its kind, start to end its span. At the end of the source value is 67 and the span a point.
- * Refuses with 1, 2, 4, then 10 to 19. */
-uint32_t puffsatchel_read(const uint8_t *source, size_t source_len, size_t at, puffsatchel_answer *answer);
+ * Refuses with 6, 1, 2, 4, then 10 to 19. */
+uint32_t puffsatchel_read(const uint8_t *source, size_t source_len, uint32_t reading, size_t at, puffsatchel_answer *answer);
 
 /* The same for a source that puffsatchel_test has accepted and a place that a token ended at, and does not test them again: to read a source
- * token by token. On anything else it answers too, and reads no byte outside the source; but an ill-formed part counts as the end. */
-uint32_t puffsatchel_next(const uint8_t *source, size_t source_len, size_t at, puffsatchel_answer *answer);
+ * token by token. On anything else it answers too, and reads no byte outside the source; but an ill-formed part counts as the end.
+ * Refuses with 6, then 10 to 19. */
+uint32_t puffsatchel_next(const uint8_t *source, size_t source_len, uint32_t reading, size_t at, puffsatchel_answer *answer);
 
 /* Lists the tokens of a source, three words each, from the store's first word on; count is of stored tokens. Stops at the first refusal
- * (1, 2, 10 to 19, and 3 for the token that found no three words). The tokens before it stay stored, all later words are unchanged. */
-uint32_t puffsatchel_list(const uint8_t *source, size_t source_len, uint32_t *store, size_t store_len, puffsatchel_answer *answer);
+ * (6, 1, 2, 10 to 19, and 3 for the token that found no three words). The tokens before it stay stored, all later words are unchanged. */
+uint32_t puffsatchel_list(const uint8_t *source, size_t source_len, uint32_t reading, uint32_t *store, size_t store_len, puffsatchel_answer *answer);
 
 /* Writes the source with x over every byte inside strings, byte strings, comments and templates; from a refused token on it is copied, and
- * the refusal (10 to 19) is the result. 1, 2, and 3 for an out shorter than the source, write nothing. Later bytes are unchanged. */
-uint32_t puffsatchel_outline(const uint8_t *source, size_t source_len, uint8_t *out, size_t out_len, puffsatchel_answer *answer);
+ * the refusal (10 to 19) is the result. 6, 1, 2, and 3 for an out shorter than the source, write nothing. Later bytes are unchanged. */
+uint32_t puffsatchel_outline(const uint8_t *source, size_t source_len, uint32_t reading, uint8_t *out, size_t out_len, puffsatchel_answer *answer);
 
 /* Writes what a body stands for, its escapes read by one of the five forms; count is of written bytes, never more than the body has.
  * Refuses with 5, 1, 2, the earliest of 20 to 25, 27, 26, and then writes nothing. Later bytes are unchanged. */

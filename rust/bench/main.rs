@@ -22,9 +22,9 @@ use std::time::Instant;
 
 use look::Look;
 use measured::{
-    measured_ours_list, measured_ours_look, measured_ours_look_alone, measured_ours_unescape,
-    measured_rust_list, measured_rust_look, measured_rust_look_alone, measured_rust_unescape, Body,
-    Form, Room,
+    measured_ours_list, measured_ours_list_first, measured_ours_look, measured_ours_look_alone,
+    measured_ours_unescape, measured_rust_list, measured_rust_look, measured_rust_look_alone,
+    measured_rust_unescape, Body, Form, Room,
 };
 
 const SIZES: [usize; 2] = [1024, 65_536];
@@ -47,6 +47,8 @@ impl Case {
 
 enum Work {
     List(Vec<u8>),
+    /// In the inputs each comment ends where it does in the Rust.
+    ListFirst(Vec<u8>),
     Unescape(Vec<Body>),
     Look(Rc<Look>),
     LookAlone(Rc<Look>),
@@ -56,6 +58,7 @@ impl Work {
     fn call(&self) -> &'static str {
         match self {
             Work::List(..) => "list",
+            Work::ListFirst(..) => "list, first close",
             Work::Unescape(..) => "unescape",
             Work::Look(..) => "look",
             Work::LookAlone(..) => "look alone",
@@ -64,7 +67,7 @@ impl Work {
 
     fn texts(&self) -> Vec<&[u8]> {
         match self {
-            Work::List(source) => vec![source],
+            Work::List(source) | Work::ListFirst(source) => vec![source],
             Work::Unescape(bodies) => bodies.iter().map(|body| &body.bytes[..]).collect(),
             Work::Look(look) | Work::LookAlone(look) => vec![&look.source],
         }
@@ -85,6 +88,7 @@ impl Work {
     fn ours(&self, room: &mut Room) {
         match self {
             Work::List(source) => _ = black_box(measured_ours_list(source, room)),
+            Work::ListFirst(source) => _ = black_box(measured_ours_list_first(source, room)),
             Work::Unescape(bodies) => _ = black_box(measured_ours_unescape(bodies, room)),
             Work::Look(look) => _ = black_box(measured_ours_look(look, room)),
             Work::LookAlone(look) => _ = black_box(measured_ours_look_alone(look, room)),
@@ -93,7 +97,7 @@ impl Work {
 
     fn rusts(&self, room: &mut Room) {
         match self {
-            Work::List(source) => _ = black_box(measured_rust_list(source, room)),
+            Work::List(source) | Work::ListFirst(source) => _ = black_box(measured_rust_list(source, room)),
             Work::Unescape(bodies) => _ = black_box(measured_rust_unescape(bodies, room)),
             Work::Look(look) => _ = black_box(measured_rust_look(look, room)),
             Work::LookAlone(look) => _ = black_box(measured_rust_look_alone(look, room)),
@@ -105,6 +109,11 @@ impl Work {
         match self {
             Work::List(source) => {
                 let ours = measured_ours_list(source, room);
+                let rusts = measured_rust_list(source, room);
+                rusts && ours.is_some_and(|count| room.same_tokens(count))
+            }
+            Work::ListFirst(source) => {
+                let ours = measured_ours_list_first(source, room);
                 let rusts = measured_rust_list(source, room);
                 rusts && ours.is_some_and(|count| room.same_tokens(count))
             }
@@ -156,6 +165,19 @@ fn sources(size: usize) -> [(&'static str, String); 5] {
     ]
 }
 
+/// Each source by rune's reading, and then each to the first close of a comment.
+fn lists(size: usize, sources: &[(&str, String)]) -> Vec<Case> {
+    let mut cases = Vec::new();
+
+    for work in [Work::List, Work::ListFirst] {
+        for (input, source) in sources {
+            cases.push(Case::new(input, size, work(source.clone().into_bytes())));
+        }
+    }
+
+    cases
+}
+
 /// Each source's script with its white space dropped and kept: with the lexing, and then all without.
 fn looks(size: usize, sources: &[(&str, String)]) -> Vec<Case> {
     let mut whole = Vec::new();
@@ -192,12 +214,7 @@ fn cases() -> Vec<Case> {
             ("bodies of not ASCII", bodies_of(&sources[4].1)),
         ];
 
-        let looks = looks(size, &sources);
-
-        for (input, source) in sources {
-            let work = Work::List(source.into_bytes());
-            cases.push(Case::new(input, size, work));
-        }
+        cases.extend(lists(size, &sources));
         for (input, form, body) in bodies {
             let bytes = body.into_bytes();
             let work = Work::Unescape(vec![Body { form, bytes }]);
@@ -207,7 +224,7 @@ fn cases() -> Vec<Case> {
             let work = Work::Unescape(bodies);
             cases.push(Case::new(input, size, work));
         }
-        cases.extend(looks);
+        cases.extend(looks(size, &sources));
     }
 
     cases

@@ -11,6 +11,7 @@ extern "C" {
     fn puffsatchel_list(
         source: *const u8,
         source_len: usize,
+        reading: u32,
         store: *mut u32,
         store_len: usize,
         answer: *mut Answer,
@@ -28,6 +29,13 @@ extern "C" {
 
 /// The largest source.
 const LARGEST: usize = 65_536;
+
+/// puffsatchel.h's number of a reading.
+#[derive(Clone, Copy)]
+enum Reading {
+    CommentsCrate = 1,
+    CommentsFirst = 2,
+}
 
 /// puffsatchel.h's number of a form.
 #[derive(Clone, Copy, PartialEq)]
@@ -88,17 +96,25 @@ impl Room {
 #[no_mangle]
 #[inline(never)]
 pub(crate) fn measured_ours_list(source: &[u8], room: &mut Room) -> Option<usize> {
-    our_list(source, &mut room.store)
+    our_list(source, Reading::CommentsCrate, &mut room.store)
+}
+
+/// The same by the reading in which the first close ends a comment.
+#[no_mangle]
+#[inline(never)]
+pub(crate) fn measured_ours_list_first(source: &[u8], room: &mut Room) -> Option<usize> {
+    our_list(source, Reading::CommentsFirst, &mut room.store)
 }
 
 #[inline]
-fn our_list(source: &[u8], store: &mut [u32]) -> Option<usize> {
+fn our_list(source: &[u8], reading: Reading, store: &mut [u32]) -> Option<usize> {
     let mut answer = Answer::default();
     // SAFETY: each pointer is of as many elements as the number beside it says, and nothing overlaps.
     let refused = unsafe {
         puffsatchel_list(
             source.as_ptr(),
             source.len(),
+            reading as u32,
             store.as_mut_ptr(),
             store.len(),
             &mut answer,
@@ -165,7 +181,7 @@ pub(crate) fn measured_rust_unescape(bodies: &[Body], room: &mut Room) -> bool {
 #[no_mangle]
 #[inline(never)]
 pub(crate) fn measured_ours_look(look: &Look, room: &mut Room) -> Option<usize> {
-    let count = our_list(&look.source, &mut room.store)?;
+    let count = our_list(&look.source, Reading::CommentsCrate, &mut room.store)?;
     look.run(&room.store[..3 * count], &mut room.our_emitted, |_, answer| _ = black_box(answer))
 }
 

@@ -10,6 +10,8 @@ import sys
 BOUNDS = {"ascii": 1.0, "wide": 1.1}
 # Says what a part of another call costs, and has no bound of its own.
 UNBOUND = {"look alone"}
+# The listing to the first close over that by rune's reading: it tests the two scalars of each comment that the other passes over, and no more.
+FIRST_CLOSE = 1.002
 # Cost a byte at 64 KiB over that at 1 KiB: above this it is no longer flat.
 FLAT = 1.1
 
@@ -41,6 +43,23 @@ def timed(case):
     return f"{case['ours time']} | {case['rust time']} | {case['ours time'] / case['rust time']:.2f}"
 
 
+def readings(found):
+    """Prints both readings side by side, and answers the bounds that are broken."""
+    broken = []
+    print("| input | size | list | list, first close | ratio |")
+    print("|---|---|---|---|---|")
+    for (call, name), sizes in found.items():
+        if call != "list, first close":
+            continue
+        for size, case in sizes.items():
+            rune = found["list", name][size]["ours"]
+            ratio = case["ours"] / rune
+            if ratio > FIRST_CLOSE:
+                broken.append(f"{call}, {name}, {size}: {ratio:.4f} of the instructions of rune's reading, and at most {FIRST_CLOSE} are allowed")
+            print(f"| {name} | {size} | {rune} | {case['ours']} | {ratio:.4f} |")
+    return broken
+
+
 def main(folder):
     found = measured(folder)
     broken = []
@@ -67,6 +86,9 @@ def main(folder):
         if large / small > FLAT:
             broken.append(f"{call}, {name}: {large / small:.2f} times as much a byte at 64 KiB as at 1 KiB, and at most {FLAT} is flat")
         print(f"| {call} | {name} | {small:.2f} | {large:.2f} | {large / small:.2f} |")
+
+    print()
+    broken += readings(found)
 
     print()
     for line in broken:

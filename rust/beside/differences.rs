@@ -56,7 +56,7 @@ fn one(
     let refused = refused.map(|(number, start, end)| Refused::new(number, start, end));
     let mut words = vec![0; 3 * source.len()];
 
-    let (count, stopped) = match puffsatchel::list(source, &mut words) {
+    let (count, stopped) = match puffsatchel::list(source, puffsatchel::Reading::rune(), &mut words) {
         Ok(count) => (count, None),
         Err(stopped) => (stopped.count, Some(stopped.refusal.into())),
     };

@@ -1,6 +1,6 @@
 //! One script of lookahead calls through both sides.
 
-use puffsatchel::{Kind, Lookahead, Refusal, Token, Whitespace};
+use puffsatchel::{Kind, Lookahead, Reading, Refusal, Token, Whitespace};
 
 use crate::answers::{Difference, Refused};
 use crate::lent::Lent;
@@ -37,7 +37,7 @@ impl Scripts {
         self.words.clear();
         self.words.resize(puffsatchel::WORDS_PER_TOKEN * source.len(), 0);
         let rusts = oracle::text(source).and_then(|text| oracle::list_words(text, |_| ()).map(|_| text));
-        let ours = puffsatchel::list(source, &mut self.words);
+        let ours = puffsatchel::list(source, Reading::rune(), &mut self.words);
 
         let (text, count) = match (rusts.map_err(Refused::from), ours.map_err(|stopped| stopped.refusal.into())) {
             (Ok(text), Ok(count)) => (text, count),

@@ -1,5 +1,7 @@
 //! One source through both sides: its listing, its tokens one by one, its outline and the outline of that.
 
+use puffsatchel::Reading;
+
 use crate::answers::{Difference, Listed, Refused};
 use crate::domain::{self, Outside};
 use crate::lent::Lent;
@@ -9,6 +11,9 @@ const NO_ROOM: u32 = 3;
 const NO_PLACE: u32 = 4;
 const END_OF_FILE: u32 = 67;
 const INSIDE: u8 = b'x';
+
+/// The reading that equals the Rust's.
+const RUNE: Reading = Reading::rune();
 
 pub(crate) struct Sources {
     rust: Listed,
@@ -39,7 +44,8 @@ impl Sources {
     pub(crate) fn compare(&mut self, source: &[u8]) -> Result<Option<Outside>, Difference> {
         self.turn += 1;
         let room = 3 * source.len() + self.turn % 3;
-        list(source, room, &mut self.words, &mut self.ours)?;
+        list(source, RUNE, room, &mut self.words, &mut self.ours)?;
+        self.first_close(source, room)?;
 
         let text = match oracle::text(source) {
             Ok(text) => text,
@@ -69,6 +75,22 @@ impl Sources {
         self.one_at_a_place(source)?;
         self.outline(text, left.is_none())?;
         Ok(left.map(|(_, why)| why))
+    }
+
+    /// Without `/*` the other reading lists the same.
+    fn first_close(&mut self, source: &[u8], room: usize) -> Result<(), Difference> {
+        if source.windows(2).any(|pair| pair == b"/*") {
+            return Ok(());
+        }
+
+        list(source, Reading::first_close(), room, &mut self.words, &mut self.again)?;
+
+        if self.again == self.ours {
+            return Ok(());
+        }
+
+        let what = "the listing of a source that opens no comment, by rune's reading and to the first close";
+        Err(Difference::lists(what, &self.ours, &self.again))
     }
 
     fn same_as_rust(&self) -> Result<(), Difference> {
@@ -119,7 +141,7 @@ impl Sources {
         let room = self.turn % self.ours.words.len();
         let fit = room / 3 * 3;
         let (start, end) = (self.ours.words[fit + 1] as usize, self.ours.words[fit + 2] as usize);
-        list(source, room, &mut self.words, &mut self.again)?;
+        list(source, RUNE, room, &mut self.words, &mut self.again)?;
 
         let fits = self.again.words[..] == self.ours.words[..fit];
 
@@ -136,7 +158,7 @@ impl Sources {
         again.words.clear();
         again.refused = None;
 
-        for item in puffsatchel::Lexer::new(source) {
+        for item in puffsatchel::Lexer::new(source, RUNE) {
             match item {
                 Ok(token) => again.words.extend(words(token)),
                 Err(refusal) => again.refused = Some(refusal.into()),
@@ -215,7 +237,7 @@ impl Sources {
     /// The outline lists like its source, strings with a backslash taken as those without.
     fn list_alike(&mut self, inside: bool) -> Result<(), Difference> {
         self.ours.make_plain();
-        list(&self.wanted, 3 * self.wanted.len(), &mut self.words, &mut self.again)?;
+        list(&self.wanted, RUNE, 3 * self.wanted.len(), &mut self.words, &mut self.again)?;
 
         if self.again != self.ours {
             return Err(Difference::lists("the outline's listing, as its source's", &self.ours, &self.again));
@@ -249,7 +271,7 @@ impl Sources {
 }
 
 fn same_read(source: &[u8], place: usize, wanted: Result<[u32; 3], Refused>) -> Result<(), Difference> {
-    let ours = puffsatchel::read(source, place).map_err(Refused::from).map(words);
+    let ours = puffsatchel::read(source, RUNE, place).map_err(Refused::from).map(words);
 
     if ours == wanted {
         return Ok(());
@@ -272,8 +294,14 @@ fn same_refusal(what: &str, wanted: Option<Refused>, ours: Option<Refused>) -> R
 }
 
 /// Lists by the library, and judges what was not written.
-fn list(source: &[u8], room: usize, words: &mut Lent<u32>, into: &mut Listed) -> Result<(), Difference> {
-    let (count, refused) = match puffsatchel::list(source, words.fresh(room)) {
+fn list(
+    source: &[u8],
+    reading: Reading,
+    room: usize,
+    words: &mut Lent<u32>,
+    into: &mut Listed,
+) -> Result<(), Difference> {
+    let (count, refused) = match puffsatchel::list(source, reading, words.fresh(room)) {
         Ok(count) => (count, None),
         Err(stopped) => (stopped.count, Some(stopped.refusal.into())),
     };
@@ -289,7 +317,7 @@ fn list(source: &[u8], room: usize, words: &mut Lent<u32>, into: &mut Listed) ->
 }
 
 fn outline(source: &[u8], room: usize, bytes: &mut Lent<u8>) -> Option<Refused> {
-    puffsatchel::outline(source, bytes.fresh(room)).err().map(Refused::from)
+    puffsatchel::outline(source, RUNE, bytes.fresh(room)).err().map(Refused::from)
 }
 
 /// Document 01's outline, of the Rust's tokens.

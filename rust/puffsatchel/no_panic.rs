@@ -5,11 +5,16 @@
 use core::fmt::{self, Write};
 
 use puffsatchel::{list, load, outline, read, store, test, unescape};
-use puffsatchel::{Form, Kind, Lexer, Lookahead, Reason, Refusal, Stopped, Token, Tokens, Whitespace};
+use puffsatchel::{Form, Kind, Lexer, Lookahead, Reading, Reason, Refusal, Stopped, Token, Tokens, Whitespace};
 
 #[no_mangle]
-pub fn lexer_new(source: &[u8]) -> Lexer<'_> {
-    Lexer::new(source)
+pub fn readings() -> [Reading; 2] {
+    [Reading::rune(), Reading::first_close()]
+}
+
+#[no_mangle]
+pub fn lexer_new(source: &[u8], reading: Reading) -> Lexer<'_> {
+    Lexer::new(source, reading)
 }
 
 #[no_mangle]
@@ -18,14 +23,14 @@ pub fn lexer_next(lexer: &mut Lexer<'_>) -> Option<Result<Token, Refusal>> {
 }
 
 #[no_mangle]
-pub fn one(source: &[u8], at: usize) -> Result<Token, Refusal> {
+pub fn one(source: &[u8], reading: Reading, at: usize) -> Result<Token, Refusal> {
     test(source)?;
-    read(source, at)
+    read(source, reading, at)
 }
 
 #[no_mangle]
-pub fn lists(source: &[u8], words: &mut [u32]) -> Result<usize, Stopped> {
-    list(source, words)
+pub fn lists(source: &[u8], reading: Reading, words: &mut [u32]) -> Result<usize, Stopped> {
+    list(source, reading, words)
 }
 
 #[no_mangle]
@@ -39,8 +44,8 @@ pub fn tokens_next(tokens: &mut Tokens<'_>) -> Option<Result<Token, Refusal>> {
 }
 
 #[no_mangle]
-pub fn outlines(source: &str, out: &mut [u8]) -> Result<(), Refusal> {
-    outline(source, out)
+pub fn outlines(source: &str, reading: Reading, out: &mut [u8]) -> Result<(), Refusal> {
+    outline(source, reading, out)
 }
 
 #[no_mangle]

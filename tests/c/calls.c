@@ -5,6 +5,9 @@
 
 static uint8_t *last;
 
+/* What each call that reads a source is told. What is expected of comments is apart; all else is the same under both readings. */
+static uint32_t reading;
+
 static const uint8_t *bytes(const char *text, size_t len) {
     if (len != 0) memcpy(last - len, text, len);
     return last - len;
@@ -17,12 +20,12 @@ static uint32_t test(const char *text, size_t len) {
 
 static uint32_t read_at(const char *text, size_t len, size_t at) {
     forget();
-    return puffsatchel_read(bytes(text, len), len, at, &answer);
+    return puffsatchel_read(bytes(text, len), len, reading, at, &answer);
 }
 
 static uint32_t next_at(const char *text, size_t len, size_t at) {
     forget();
-    return puffsatchel_next(bytes(text, len), len, at, &answer);
+    return puffsatchel_next(bytes(text, len), len, reading, at, &answer);
 }
 
 #define READ(text, at) read_at(text, sizeof(text) - 1, at)
@@ -36,7 +39,7 @@ static uint32_t list(const char *text, size_t len, size_t room) {
     size_t i;
     for (i = 0; i < 64; i++) store[i] = MARK_WORD;
     forget();
-    return puffsatchel_list(bytes(text, len), len, store, room, &answer);
+    return puffsatchel_list(bytes(text, len), len, reading, store, room, &answer);
 }
 
 static int stored(const uint32_t *words, size_t count) {
@@ -67,7 +70,7 @@ static int wrote(const char *text, size_t len) {
 
 static uint32_t outline(const char *text, size_t len, size_t room) {
     clear_out();
-    return puffsatchel_outline(bytes(text, len), len, out, room, &answer);
+    return puffsatchel_outline(bytes(text, len), len, reading, out, room, &answer);
 }
 
 static uint32_t unescape(const char *text, size_t len, uint32_t form, size_t room) {
@@ -91,10 +94,9 @@ static void reads_a_token(void) {
     EXPECT(READ("a;", 0) == 0 && answered(PUFFSATCHEL_KIND_IDENT, 0, 0, 1, 1));
     EXPECT(READ("a;", 1) == 0 && answered(PUFFSATCHEL_KIND_SEMI_COLON, 0, 1, 2, 2));
     EXPECT(READ("a;", 2) == 0 && answered(PUFFSATCHEL_KIND_EOF, 0, 2, 2, 2));
-    EXPECT(READ("/**/", 0) == 0 && answered(PUFFSATCHEL_KIND_UNCLOSED_COMMENT, 0, 0, 4, 4));
-    EXPECT(READ("/*a*/", 0) == 0 && answer.value == PUFFSATCHEL_KIND_UNCLOSED_COMMENT);
-    EXPECT(READ("/*ab*/", 0) == 0 && answer.value == PUFFSATCHEL_KIND_MULTILINE_COMMENT);
-    EXPECT(READ("/**/x/**/", 0) == 0 && answered(PUFFSATCHEL_KIND_MULTILINE_COMMENT, 0, 0, 9, 9));
+    EXPECT(READ("/*", 0) == 0 && answered(PUFFSATCHEL_KIND_UNCLOSED_COMMENT, 0, 0, 2, 2));
+    EXPECT(READ("/*/", 0) == 0 && answered(PUFFSATCHEL_KIND_UNCLOSED_COMMENT, 0, 0, 3, 3));
+    EXPECT(READ("/*ab*/", 0) == 0 && answered(PUFFSATCHEL_KIND_MULTILINE_COMMENT, 0, 0, 6, 6));
     EXPECT(READ("'A", 0) == 0 && answer.value == PUFFSATCHEL_KIND_CHAR);
     EXPECT(READ("'a", 0) == 0 && answer.value == PUFFSATCHEL_KIND_LABEL);
     EXPECT(READ("...", 0) == 0 && answered(PUFFSATCHEL_KIND_DOT_DOT, 0, 0, 2, 2));
@@ -164,6 +166,41 @@ static void outlines(void) {
     EXPECT(OUTLINE("\"a\"", 0) == PUFFSATCHEL_NO_ROOM && answered(0, 0, 0, 0, 0) && WROTE(""));
     EXPECT(OUTLINE("", 0) == 0 && answered(0, 0, 0, 0, 0) && WROTE(""));
     EXPECT(OUTLINE("\"a\"\xff", 64) == PUFFSATCHEL_ILL_FORMED && answered(0, 0, 3, 3, 3) && WROTE(""));
+}
+
+/* Two scalars after the opening are passed over, by number and not by bytes. */
+static void comments_of_the_crate(void) {
+    static const uint32_t words_all[] = {3, 0, 9};
+    static const uint32_t words_template[] = {16, 0, 8};
+    EXPECT(READ("/**/", 0) == 0 && answered(PUFFSATCHEL_KIND_UNCLOSED_COMMENT, 0, 0, 4, 4));
+    EXPECT(READ("/* */", 0) == 0 && answered(PUFFSATCHEL_KIND_UNCLOSED_COMMENT, 0, 0, 5, 5));
+    EXPECT(READ("/***/", 0) == 0 && answered(PUFFSATCHEL_KIND_UNCLOSED_COMMENT, 0, 0, 5, 5));
+    EXPECT(READ("/*/*/", 0) == 0 && answered(PUFFSATCHEL_KIND_UNCLOSED_COMMENT, 0, 0, 5, 5));
+    EXPECT(READ("/*\xc3\xa9*/", 0) == 0 && answered(PUFFSATCHEL_KIND_UNCLOSED_COMMENT, 0, 0, 6, 6));
+    EXPECT(READ("/****/", 0) == 0 && answered(PUFFSATCHEL_KIND_MULTILINE_COMMENT, 0, 0, 6, 6));
+    EXPECT(NEXT("/**/x/**/", 0) == 0 && answered(PUFFSATCHEL_KIND_MULTILINE_COMMENT, 0, 0, 9, 9));
+    EXPECT(LIST("/**/x/**/", 64) == 0 && answered(0, 1, 0, 0, 0) && STORED(all));
+    EXPECT(LIST("`\\/**/`x", 64) == 0 && answered(0, 1, 0, 0, 0) && STORED(template));
+    EXPECT(OUTLINE("/**/x/**/", 64) == 0 && answered(0, 0, 0, 0, 0) && WROTE("/*xxxxx*/"));
+    EXPECT(OUTLINE("/*a*/b", 64) == 0 && answered(0, 0, 0, 0, 0) && WROTE("/*xxxx"));
+    EXPECT(OUTLINE("`\\/**/`x", 64) == 0 && answered(0, 0, 0, 0, 0) && WROTE("`xxxxxxx"));
+}
+
+static void comments_to_the_first_close(void) {
+    static const uint32_t words_all[] = {3, 0, 4, 6, 4, 5, 3, 5, 9};
+    static const uint32_t words_template[] = {16, 0, 7, 6, 7, 8};
+    EXPECT(READ("/**/", 0) == 0 && answered(PUFFSATCHEL_KIND_MULTILINE_COMMENT, 0, 0, 4, 4));
+    EXPECT(READ("/* */", 0) == 0 && answered(PUFFSATCHEL_KIND_MULTILINE_COMMENT, 0, 0, 5, 5));
+    EXPECT(READ("/***/", 0) == 0 && answered(PUFFSATCHEL_KIND_MULTILINE_COMMENT, 0, 0, 5, 5));
+    EXPECT(READ("/*/*/", 0) == 0 && answered(PUFFSATCHEL_KIND_MULTILINE_COMMENT, 0, 0, 5, 5));
+    EXPECT(READ("/*\xc3\xa9*/", 0) == 0 && answered(PUFFSATCHEL_KIND_MULTILINE_COMMENT, 0, 0, 6, 6));
+    EXPECT(READ("/**/*/", 0) == 0 && answered(PUFFSATCHEL_KIND_MULTILINE_COMMENT, 0, 0, 4, 4));
+    EXPECT(NEXT("/**/x/**/", 0) == 0 && answered(PUFFSATCHEL_KIND_MULTILINE_COMMENT, 0, 0, 4, 4));
+    EXPECT(LIST("/**/x/**/", 64) == 0 && answered(0, 3, 0, 0, 0) && STORED(all));
+    EXPECT(LIST("`\\/**/`x", 64) == 0 && answered(0, 2, 0, 0, 0) && STORED(template));
+    EXPECT(OUTLINE("/**/x/**/", 64) == 0 && answered(0, 0, 0, 0, 0) && WROTE("/**/x/**/"));
+    EXPECT(OUTLINE("/*a*/b", 64) == 0 && answered(0, 0, 0, 0, 0) && WROTE("/*x*/b"));
+    EXPECT(OUTLINE("`\\/**/`x", 64) == 0 && answered(0, 0, 0, 0, 0) && WROTE("`xxxxx`x"));
 }
 
 static void unescapes(void) {
@@ -258,7 +295,7 @@ static void largest(void) {
     EXPECT(outline(text, most, 64) == PUFFSATCHEL_NO_ROOM && answered(0, 0, 0, 0, 0) && WROTE(""));
     EXPECT(unescape(text, most + 1, PUFFSATCHEL_FORM_TEXT, 64) == PUFFSATCHEL_TOO_LONG && answered(0, 0, 0, 0, 0) && WROTE(""));
     forget();
-    EXPECT(puffsatchel_list(bytes(text, most), most, words, PUFFSATCHEL_LARGEST_LIST, &answer) == 0 && answered(0, most, 0, 0, 0));
+    EXPECT(puffsatchel_list(bytes(text, most), most, reading, words, PUFFSATCHEL_LARGEST_LIST, &answer) == 0 && answered(0, most, 0, 0, 0));
     for (i = 0; i < most; i++) right = right && words[3 * i] == 31 && words[3 * i + 1] == i && words[3 * i + 2] == i + 1;
     EXPECT(right);
     forget();
@@ -280,21 +317,60 @@ static void deepest(void) {
     EXPECT(read_at(text, most + 2, 0) == PUFFSATCHEL_TOO_DEEP && answered(0, 0, 0, most + 2, most + 2));
 }
 
-int main(void) {
-    last = edge(PUFFSATCHEL_LARGEST_SOURCE + 1) + PUFFSATCHEL_LARGEST_SOURCE + 1;
-    EXPECT(puffsatchel_version() == PUFFSATCHEL_VERSION);
-    tests_a_source();
+static int no_reading(uint32_t result) {
+    return result == PUFFSATCHEL_NO_SUCH_READING && answered(0, 0, 0, 0, 0);
+}
+
+/* Before every other refusal: for a source that is ill-formed or too long, for a place past the end, for memory that is too short. */
+static void refuses_a_reading(void) {
+    static const uint32_t numbers[] = {0, 3, 4, 5, 16, 17, 18, 0x80000001u, UINT32_MAX};
+    static char text[PUFFSATCHEL_LARGEST_SOURCE + 1];
+    size_t i;
+    memset(text, ';', sizeof text);
+    for (i = 0; i < sizeof numbers / sizeof numbers[0]; i++) {
+        reading = numbers[i];
+        EXPECT(no_reading(READ("a;", 0)));
+        EXPECT(no_reading(READ("a;", 3)));
+        EXPECT(no_reading(READ("\xff", 0)));
+        EXPECT(no_reading(read_at(text, sizeof text, 0)));
+        EXPECT(no_reading(NEXT("a;", 1)));
+        EXPECT(no_reading(NEXT("''", 0)));
+        EXPECT(no_reading(NEXT("", 0)));
+        EXPECT(no_reading(LIST("a;", 64)) && stored(store, 0));
+        EXPECT(no_reading(LIST("a;", 0)) && stored(store, 0));
+        EXPECT(no_reading(LIST("a;\xff", 64)) && stored(store, 0));
+        EXPECT(no_reading(list(text, sizeof text, 64)) && stored(store, 0));
+        EXPECT(no_reading(OUTLINE("\"a\"", 64)) && WROTE(""));
+        EXPECT(no_reading(OUTLINE("\"a\"", 2)) && WROTE(""));
+        EXPECT(no_reading(OUTLINE("\"a\"\xff", 64)) && WROTE(""));
+        EXPECT(no_reading(outline(text, sizeof text, 64)) && WROTE(""));
+    }
+}
+
+static void reads_by(uint32_t number) {
+    reading = number;
     reads_a_token();
     refuses_a_token();
     refuses_a_place();
     reads_on();
     lists();
     outlines();
+    largest();
+    deepest();
+}
+
+int main(void) {
+    last = edge(PUFFSATCHEL_LARGEST_SOURCE + 1) + PUFFSATCHEL_LARGEST_SOURCE + 1;
+    EXPECT(puffsatchel_version() == PUFFSATCHEL_VERSION);
+    tests_a_source();
+    reads_by(PUFFSATCHEL_COMMENTS_CRATE);
+    comments_of_the_crate();
+    reads_by(PUFFSATCHEL_COMMENTS_FIRST);
+    comments_to_the_first_close();
+    refuses_a_reading();
     unescapes();
     keeps();
     loads();
-    largest();
-    deepest();
     printf("%d passed, %d failed\n", passed, failed);
     return failed != 0;
 }

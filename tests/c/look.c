@@ -271,14 +271,14 @@ static void refuses_a_list(void) {
 }
 
 /* The other calls in the same program: what is emitted of a source's list is that list, and its tokens are told as they are read. */
-static void reads_a_source(void) {
+static void reads_a_source(uint32_t reading) {
     static const char text[] = "pub fn main() { // first\n  let a = 1..=2;\t/* second */ b\"c\" }";
     const size_t text_len = sizeof text - 1;
     uint32_t words[3 * sizeof text];
     size_t len, at = 0, token = 0;
     int right = 1;
     forget();
-    EXPECT(puffsatchel_list((const uint8_t *)text, text_len, words, sizeof words / sizeof(uint32_t), &answer) == 0);
+    EXPECT(puffsatchel_list((const uint8_t *)text, text_len, reading, words, sizeof words / sizeof(uint32_t), &answer) == 0);
     len = 3 * answer.count;
     lend(words, len);
     fresh(1);
@@ -286,7 +286,7 @@ static void reads_a_source(void) {
         right = EMIT(bump, ROOM) == 0 && answer.count != 0 && memcmp(store, words + at, 3 * answer.count * sizeof(uint32_t)) == 0;
         at += 3 * answer.count;
         token = answer.start;
-        right = right && puffsatchel_read((const uint8_t *)text, text_len, token, &answer) == 0 && answer.value == words[at - 3];
+        right = right && puffsatchel_read((const uint8_t *)text, text_len, reading, token, &answer) == 0 && answer.value == words[at - 3];
     }
     EXPECT(right && at == len && token == text_len - 1);
     EXPECT(SHOW(is_eof) == 0 && answered(1, 0, 0, 0, 0));
@@ -306,7 +306,8 @@ int main(void) {
         refuses_a_short_store();
         refuses_more_white_space();
         refuses_a_state();
-        reads_a_source();
+        reads_a_source(PUFFSATCHEL_COMMENTS_CRATE);
+        reads_a_source(PUFFSATCHEL_COMMENTS_FIRST);
     }
     refuses_a_list();
     printf("%d passed, %d failed\n", passed, failed);

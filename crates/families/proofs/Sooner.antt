@@ -204,23 +204,20 @@ module _ (R : Rules) (n : ℕ) (few : n ≤ R .skip) where
       split (both (eqb p 0) (isShebang cs)) (λ e. rw e (inl (bang-same R n cs p)))
       (λ e. rw e (close-beside m (tokenOf R 64 cs p) (tokenOf Few 64 cs p) (token-beside 64 cs p)))
 
--- an answer that is a comment too, starts where the token k does, and ends no later
-pub record Sooner (r : Read) (k : Token) : Type 0 where
+-- an answer that is a comment too and starts where the token k does, and how the two ends stand to each other
+pub record AlsoComment (r : Read) (k : Token) (Order : ℕ → ℕ → Type 0) : Type 0 where
   pub token : Token
   pub closed : Bool
   pub got : r ≡ Got token
   pub kind : token .kind ≡ MultilineComment closed
   pub start : token .span .start ≡ k .span .start
-  pub end : token .span .end ≤ k .span .end
+  pub end : Order (token .span .end) (k .span .end)
 
--- .. and ends no sooner
-pub record Later (r : Read) (k : Token) : Type 0 where
-  pub token : Token
-  pub closed : Bool
-  pub got : r ≡ Got token
-  pub kind : token .kind ≡ MultilineComment closed
-  pub start : token .span .start ≡ k .span .start
-  pub end : k .span .end ≤ token .span .end
+abbrev pub Sooner : Read → Token → Type 0
+Sooner r k = AlsoComment r k (λ e e′. e ≤ e′)
+
+abbrev pub Later : Read → Token → Type 0
+Later r k = AlsoComment r k (λ e e′. e′ ≤ e)
 
 beside-sooner : (r r′ : Read) → Beside r r′ → (k : Token) (c : Bool) → r ≡ Got k → k .kind ≡ MultilineComment c → Sooner r′ k
 beside-sooner r r′ (inl h) k c e i = record { token = k; closed = c; got = h ∙ e; kind = i; start = refl; end = omega arith }

@@ -23,15 +23,19 @@ fill('comments/pass_one', {
 fill('comments/pass_untested', {
     'returns': '@pass-one2 .ensures ∙ simp (@enum-told .given .1, @pass-one .ensures)',
     'returns-2': 'simp (@enum-told2 .given .1)'}, macros=M)
+C = dict(M, v2='(@after .given .0 .0)', n2='(@after .given .0 .1 .0)', cs='(rest $s$ $n$)',
+         two='(step-one $s$ $n$ $v2$ $n2$ (sym (@scalar-at2 .ensures) ∙ @after .given .1))',
+         star='(comment-star $v$ $cs$ (@if1 .taken))', starred='(goes-on commentStep _ _ _ _ $g$ $v$ $n$ $step$ starred $star$)')
 fill('comments/comment_end', {
-    'Inv-loop': '(l : ℕ) × (endedOf (scan commentStep width (commentAt star) l (rest s p) p) ≡ commentEnd width 0 (rest s at) at)',
-    'μ-loop': 'length s - p',
-    'loop-holds': ('commentEnd', '($at$, refl)'),
-    'returns': 'ap endedOf (scan-end commentStep (commentAt (@loop .star)) ($g$ .0) $s$ $p$ $end$) ∙ $g$ .1',
-    'returns-2': 'ap endedOf (scan-behind commentStep starred ($g$ .0) $s$ $p$ $v$ $n$ $step$ starred (comment-close $v$ (rest $s$ $n$) (@if2 .taken))) ∙ $starred$',
+    'Inv-loop': 'Goes commentStep (skips 0) s p (scan commentStep width (skips 0) at (rest s at) at)', 'μ-loop': 'length s - p',
+    'loop-holds': '($at$, refl)',
+    'returns': ('commentEnd', 'ap endedOf (goes-end commentStep _ _ _ _ $g$ $end$)'),
+    'returns-2': ('commentEnd', 'ap endedOf (goes-cut commentStep _ _ _ _ $g$ $v$ $n$ $step$ starred $star$ (step-none $s$ $n$ (sym (@scalar-at2 .ensures) ∙ @enum-told2 .given .1)))'),
+    'returns-3': ('commentEnd', 'ap endedOf (goes-behind commentStep _ _ _ _ $starred$ $v2$ $n2$ $two$ starred (comment-close $v2$ (rest $s$ $n2$) (@if2 .taken)))'),
     'loop-less': 'let t = $step$ in omega arith',
-    'loop-again': '($p$, ap endedOf (scan-on commentStep (commentAt (@loop .star)) ($g$ .0) $s$ $p$ $v$ $n$ $step$ (commentAt (eqb $v$ 42)) (comment-more (@loop .star) $v$ (rest $s$ $n$) (⊎-elim (λ w e. w .1 .left) (λ w e. never (let z = w .left in cc)) (@if1 .came)))) ∙ $g$ .1)'},
-    macros=dict(M, starred='ap (λ (b : Bool). endedOf (scan commentStep width (commentAt b) ($g$ .0) (rest $s$ $p$) $p$)) (sym (@if1 .taken)) ∙ $g$ .1'))
+    'loop-again': 'comment-bare _ _ _ _ _ $two$ (@if2 .left) $starred$',
+    'loop-less-2': 'let t = $step$ in omega arith',
+    'loop-again-2': 'goes-on commentStep _ _ _ _ $g$ $v$ $n$ $step$ (skips 0) (comment-more $v$ $cs$ (@if1 .left))'}, macros=C)
 fill('comments/next_multiline_comment', {
     'returns': ('commentOf', '@got .ensures ∙ ap (λ (e : Ended). gotOf (MultilineComment (e .closed)) (@Start .args .start) (e .end)) (@comment-end .ensures ∙ comment-untested (@Start .args .comments) $s$ $at$ (@pass-untested .result) (@pass-untested .ensures))')},
     macros=M)

@@ -4,15 +4,13 @@ use mathlib.Core.Path.{_≡_, refl, sym, ap, _∙_}
 use mathlib.Core.List.{List, []}
 use mathlib.Core.Bool.{Bool, true, false}
 use native.Mathlib.Omega.{arith}
-use lib.Dec.{eqb}
 use borrow.Author.Tests.{eq-eqb, ne-eqb}
 use Rattle.classes.specs.Classes.{isControl}
-use Rattle.laws.proofs.Cases.{split}
 use Rattle.laws.specs.Bools.{both}
-use Rattle.readers.proofs.Scans.{scan-end, scan-last, scan-on}
+use Rattle.readers.proofs.Scans.{Goes, scan-end, scan-last, scan-on}
 use Rattle.readers.specs.Readers.{Closing, Digits, beginsDigit, body, broken, byteStep, charAnswer, charStep, commentEnd, commentStep, control, endedOf, escape, fractional, inLabel, inNumber, integral, letters, numberStep, passOne, runStep, shut, skips, slash, slashed, starred, strStep, text, untested}
 use Rattle.readers.specs.Rules.{skipOf}
-use Rattle.readers.specs.Scan.{How, before, behind, on, stopAt}
+use Rattle.readers.specs.Scan.{How, Stop, before, behind, on, scan, stopAt}
 use Rattle.readers.specs.declared.reading.Comments.{Comments}
 use Rattle.readers.specs.declared.reading.Comments.the-variants.{Crate, First}
 use Rattle.text.proofs.Decode.{Step, by-step}
@@ -24,19 +22,26 @@ run-yes f v cs h = rw h
 pub run-no : (f : ℕ → Bool) (v : ℕ) (cs : List ℕ) → f v ≡ false → runStep f tt v cs ≡ before tt
 run-no f v cs h = rw h
 
--- the code's flag: the last scalar was a star
-abbrev pub commentAt : Bool → Closing
-commentAt true = starred
-commentAt false = skips 0
+pub comment-star : (v : ℕ) (cs : List ℕ) → v ≡ 42 → commentStep (skips 0) v cs ≡ on starred
+unfolding commentStep
+comment-star v cs h = rw (eq-eqb v 42 h, commentStep)
 
 pub comment-close : (v : ℕ) (cs : List ℕ) → v ≡ 47 → commentStep starred v cs ≡ behind starred
 unfolding commentStep
 comment-close v cs h = rw (eq-eqb v 47 h, commentStep)
 
-pub comment-more : (b : Bool) (v : ℕ) (cs : List ℕ) → (b ≡ true → v ≡ 47 → ⊥) → commentStep (commentAt b) v cs ≡ on (commentAt (eqb v 42))
+pub comment-more : (v : ℕ) (cs : List ℕ) → (v ≡ 42 → ⊥) → commentStep (skips 0) v cs ≡ on (skips 0)
 unfolding commentStep
-comment-more true v cs h = split (eqb v 42) (λ e. rw (ne-eqb v 47 (h refl), e, commentStep)) (λ e. rw (ne-eqb v 47 (h refl), e, commentStep))
-comment-more false v cs h = split (eqb v 42) (λ e. rw (e, commentStep)) (λ e. rw (e, commentStep))
+comment-more v cs h = rw (ne-eqb v 42 h, commentStep)
+
+bare-step : (v : ℕ) (cs : List ℕ) → (v ≡ 47 → ⊥) → commentStep (skips 0) v cs ≡ commentStep starred v cs
+unfolding commentStep
+bare-step v cs h = rw (ne-eqb v 47 h, commentStep)
+
+-- a star that no slash follows is as good as none
+pub comment-bare : (s : List ℕ) (p v n : ℕ) (o : Stop Closing) → Step s p v n → (v ≡ 47 → ⊥) → Goes commentStep starred s p o → Goes commentStep (skips 0) s p o
+unfolding scan
+comment-bare s p v n o t h (l, e) = (l, rw (t .here) (rw (bare-step v (rest s n) h, scan) refl) ∙ e)
 
 module _ (v : ℕ) (cs : List ℕ) where
   pub byte-slash : v ≡ 92 → byteStep body v cs ≡ on slash

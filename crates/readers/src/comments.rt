@@ -72,7 +72,6 @@ fn comment_end(s: &[u8], at: usize) -> Ended
     ensures { λ r. ⌜ r ≡ commentEnd width 0 (rest (now (s .entry)) at) at ⌝ }
 {
     let mut p = at;
-    let mut star = false;
     loop {
         let Scalar::One { value, next } = text::scalar_at(s, p) else {
             break Ended {
@@ -80,15 +79,21 @@ fn comment_end(s: &[u8], at: usize) -> Ended
                 closed: false,
             };
         };
-        if star {
-            if value == 47 {
+        if value == 42 {
+            let Scalar::One {
+                value: after,
+                next: end,
+            } = text::scalar_at(s, next)
+            else {
                 break Ended {
                     end: next,
-                    closed: true,
+                    closed: false,
                 };
+            };
+            if after == 47 {
+                break Ended { end, closed: true };
             }
         }
-        star = value == 42;
         p = next;
     }
 }

@@ -2,6 +2,7 @@
 //! that are not null and are aligned (a slice's always are, an empty one's too) with the number of elements behind them.
 
 pub(crate) use crate::lent::{Ahead, Answer};
+use crate::reading::Reading;
 use crate::refusal::Refusal;
 
 #[link(name = "puffsatchel", kind = "static")]
@@ -10,13 +11,14 @@ extern "C" {
 
     fn puffsatchel_test(source: *const u8, source_len: usize, answer: *mut Answer) -> u32;
 
-    fn puffsatchel_read(source: *const u8, source_len: usize, at: usize, answer: *mut Answer) -> u32;
+    fn puffsatchel_read(source: *const u8, source_len: usize, reading: u32, at: usize, answer: *mut Answer) -> u32;
 
-    fn puffsatchel_next(source: *const u8, source_len: usize, at: usize, answer: *mut Answer) -> u32;
+    fn puffsatchel_next(source: *const u8, source_len: usize, reading: u32, at: usize, answer: *mut Answer) -> u32;
 
     fn puffsatchel_list(
         source: *const u8,
         source_len: usize,
+        reading: u32,
         store: *mut u32,
         store_len: usize,
         answer: *mut Answer,
@@ -25,6 +27,7 @@ extern "C" {
     fn puffsatchel_outline(
         source: *const u8,
         source_len: usize,
+        reading: u32,
         out: *mut u8,
         out_len: usize,
         answer: *mut Answer,
@@ -90,31 +93,35 @@ pub(crate) fn test(source: &[u8]) -> Answered {
     })
 }
 
-pub(crate) fn read(source: &[u8], at: usize) -> Answered {
+pub(crate) fn read(source: &[u8], reading: Reading, at: usize) -> Answered {
     Answered::of(|answer| {
         // SAFETY: reads the slice, at any place given nothing beyond it, and writes the answer.
-        unsafe { puffsatchel_read(source.as_ptr(), source.len(), at, answer) }
+        unsafe { puffsatchel_read(source.as_ptr(), source.len(), reading.number(), at, answer) }
     })
 }
 
-pub(crate) fn next(source: &[u8], at: usize) -> Answered {
+pub(crate) fn next(source: &[u8], reading: Reading, at: usize) -> Answered {
     Answered::of(|answer| {
         // SAFETY: reads the slice, at any place and of any bytes nothing beyond it, and writes the answer.
-        unsafe { puffsatchel_next(source.as_ptr(), source.len(), at, answer) }
+        unsafe { puffsatchel_next(source.as_ptr(), source.len(), reading.number(), at, answer) }
     })
 }
 
-pub(crate) fn list(source: &[u8], store: &mut [u32]) -> Answered {
+pub(crate) fn list(source: &[u8], reading: Reading, store: &mut [u32]) -> Answered {
+    let number = reading.number();
+
     Answered::of(|answer| {
         // SAFETY: reads one slice and writes the other, which is borrowed as mutable and so overlaps nothing.
-        unsafe { puffsatchel_list(source.as_ptr(), source.len(), store.as_mut_ptr(), store.len(), answer) }
+        unsafe { puffsatchel_list(source.as_ptr(), source.len(), number, store.as_mut_ptr(), store.len(), answer) }
     })
 }
 
-pub(crate) fn outline(source: &[u8], out: &mut [u8]) -> Answered {
+pub(crate) fn outline(source: &[u8], reading: Reading, out: &mut [u8]) -> Answered {
+    let number = reading.number();
+
     Answered::of(|answer| {
         // SAFETY: reads one slice and writes the other, which is borrowed as mutable and so overlaps nothing.
-        unsafe { puffsatchel_outline(source.as_ptr(), source.len(), out.as_mut_ptr(), out.len(), answer) }
+        unsafe { puffsatchel_outline(source.as_ptr(), source.len(), number, out.as_mut_ptr(), out.len(), answer) }
     })
 }
 

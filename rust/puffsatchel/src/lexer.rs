@@ -5,6 +5,7 @@ use core::ops::Range;
 
 use crate::calls::{self, Answer};
 use crate::kind::Kind;
+use crate::reading::Reading;
 use crate::refusal::{Reason, Refusal};
 
 /// From `start` to before `end`, in bytes of the source.
@@ -38,9 +39,9 @@ pub struct Token {
 /// The spans of the tokens cover the source from its start on with no gap.
 ///
 /// ```
-/// use puffsatchel::{Lexer, Reason};
+/// use puffsatchel::{Lexer, Reading, Reason};
 ///
-/// let mut lexer = Lexer::new(r"b'\''");
+/// let mut lexer = Lexer::new(r"b'\''", Reading::rune());
 /// assert_eq!(lexer.next().map(|token| token.map(|token| token.span.range())), Some(Ok(0..4)));
 /// assert_eq!(lexer.next().and_then(Result::err).map(|refusal| refusal.reason), Some(Reason::ExpectedCharOrLabel));
 /// assert_eq!(lexer.next(), None);
@@ -48,6 +49,7 @@ pub struct Token {
 #[derive(Debug, Clone)]
 pub struct Lexer<'a> {
     source: &'a [u8],
+    reading: Reading,
     state: State,
 }
 
@@ -63,17 +65,17 @@ enum State {
 impl<'a> Lexer<'a> {
     /// A lexer over text or bytes. The source is tested here, once; what the test refuses is the lexer's first item.
     #[must_use]
-    pub fn new<S: AsRef<[u8]> + ?Sized>(source: &'a S) -> Self {
-        Self::over(source.as_ref())
+    pub fn new<S: AsRef<[u8]> + ?Sized>(source: &'a S, reading: Reading) -> Self {
+        Self::over(source.as_ref(), reading)
     }
 
-    fn over(source: &'a [u8]) -> Self {
+    fn over(source: &'a [u8], reading: Reading) -> Self {
         let state = match calls::test(source).refusal {
             None => State::At(0),
             Some(refusal) => State::Refused(refusal),
         };
 
-        Self { source, state }
+        Self { source, reading, state }
     }
 }
 
@@ -83,7 +85,7 @@ impl Iterator for Lexer<'_> {
     fn next(&mut self) -> Option<Self::Item> {
         let item = match self.state {
             State::Refused(refusal) => Err(refusal),
-            State::At(place) => next_at(self.source, place),
+            State::At(place) => next_at(self.source, self.reading, place),
             State::Over => return None,
         };
 
@@ -110,12 +112,12 @@ pub fn test<S: AsRef<[u8]> + ?Sized>(source: &S) -> Result<(), Refusal> {
 /// Reads the one token at a place. At the end of the source it is [`Kind::Eof`], with a point as its span.
 ///
 /// The source is tested each time: [`Lexer`] is the way to read it whole.
-pub fn read<S: AsRef<[u8]> + ?Sized>(source: &S, at: usize) -> Result<Token, Refusal> {
-    calls::read(source.as_ref(), at).or_refusal().and_then(token)
+pub fn read<S: AsRef<[u8]> + ?Sized>(source: &S, reading: Reading, at: usize) -> Result<Token, Refusal> {
+    calls::read(source.as_ref(), reading, at).or_refusal().and_then(token)
 }
 
-fn next_at(source: &[u8], place: usize) -> Result<Token, Refusal> {
-    calls::next(source, place).or_refusal().and_then(token)
+fn next_at(source: &[u8], reading: Reading, place: usize) -> Result<Token, Refusal> {
+    calls::next(source, reading, place).or_refusal().and_then(token)
 }
 
 pub(crate) fn token(answer: Answer) -> Result<Token, Refusal> {

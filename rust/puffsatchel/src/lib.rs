@@ -6,12 +6,15 @@
 //! written goes to slices that the caller lends.
 //!
 //! ```
-//! use puffsatchel::{Kind, Lexer};
+//! use puffsatchel::{Kind, Lexer, Reading};
 //!
-//! let kinds: Result<Vec<Kind>, _> = Lexer::new("a;").map(|token| Ok(token?.kind)).collect();
+//! let kinds: Result<Vec<Kind>, _> = Lexer::new("a;", Reading::rune()).map(|token| Ok(token?.kind)).collect();
 //! assert_eq!(kinds?, [Kind::Ident, Kind::SemiColon]);
 //! # Ok::<(), puffsatchel::Refusal>(())
 //! ```
+//!
+//! Every call that reads a source is told how, by a [`Reading`]: as the running rune does, or with comments that end where
+//! a reader thinks that they do.
 //!
 //! [`Lexer`] reads token by token. [`list`] puts all tokens into a lent store, three words each, in one call, which is
 //! the faster way; [`Tokens`] reads such a list. [`outline`] hides what stands inside strings, comments and templates,
@@ -29,6 +32,7 @@ mod lent;
 mod lexer;
 mod lists;
 mod lookahead;
+mod reading;
 mod refusal;
 mod texts;
 
@@ -36,6 +40,7 @@ pub use self::kind::{Delimiter, Kind};
 pub use self::lexer::{read, test, Lexer, Span, Token};
 pub use self::lists::{list, load, store, Stopped, Tokens};
 pub use self::lookahead::{Lookahead, Whitespace};
+pub use self::reading::Reading;
 pub use self::refusal::{Reason, Refusal};
 pub use self::texts::{outline, unescape, Form};
 
@@ -55,7 +60,7 @@ pub const BYTES_PER_RECORD: usize = 11;
 pub const LARGEST_STORED: usize = BYTES_PER_RECORD * LARGEST_SOURCE;
 
 /// The version of the face that this wrapper is written for.
-pub const VERSION: u32 = 3;
+pub const VERSION: u32 = 4;
 
 /// The version of the archive that is linked. Where it is not [`VERSION`], build wrapper and archive from one commit.
 #[must_use]

@@ -6,6 +6,7 @@ use core::slice::ChunksExact;
 
 use crate::calls;
 use crate::lexer::{numbered, Span, Token};
+use crate::reading::Reading;
 use crate::refusal::Refusal;
 use crate::WORDS_PER_TOKEN;
 
@@ -36,17 +37,17 @@ impl core::error::Error for Stopped {
 /// [`LARGEST_LIST`](crate::LARGEST_LIST) words, is always enough.
 ///
 /// ```
-/// use puffsatchel::{list, Kind, Tokens};
+/// use puffsatchel::{list, Kind, Reading, Tokens};
 ///
 /// let mut store = [0; 12];
-/// let count = list("...", &mut store)?;
+/// let count = list("...", Reading::rune(), &mut store)?;
 /// assert_eq!(store[..3 * count], [52, 0, 2, 28, 2, 3]);
 /// let kinds: Result<Vec<Kind>, _> = Tokens::of(&store[..3 * count]).map(|token| token.map(|token| token.kind)).collect();
 /// assert_eq!(kinds?, [Kind::DotDot, Kind::Dot]);
 /// # Ok::<(), Box<dyn std::error::Error>>(())
 /// ```
-pub fn list<S: AsRef<[u8]> + ?Sized>(source: &S, store: &mut [u32]) -> Result<usize, Stopped> {
-    let answered = calls::list(source.as_ref(), store);
+pub fn list<S: AsRef<[u8]> + ?Sized>(source: &S, reading: Reading, store: &mut [u32]) -> Result<usize, Stopped> {
+    let answered = calls::list(source.as_ref(), reading, store);
     let count = answered.answer.count;
 
     match answered.refusal {

@@ -21,10 +21,10 @@ pub enum Whitespace {
 /// With white space kept, all that was ever emitted is a front part of the list. A refusal leaves everything as it was.
 ///
 /// ```
-/// use puffsatchel::{list, Kind, Lookahead, Whitespace};
+/// use puffsatchel::{list, Kind, Lookahead, Reading, Whitespace};
 ///
 /// let mut words = [0; 9];
-/// let count = list("a b", &mut words)?;
+/// let count = list("a b", Reading::rune(), &mut words)?;
 /// let mut ahead = Lookahead::new(&words[..3 * count], Whitespace::Keep)?;
 /// let mut out = [0; 6];
 /// assert_eq!(ahead.nth(1)?, Kind::Ident);

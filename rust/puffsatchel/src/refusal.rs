@@ -10,7 +10,9 @@ use crate::lexer::Span;
 /// Its text says what is wrong, where, and what to do:
 ///
 /// ```
-/// let refusal = puffsatchel::read("\"a", 0).unwrap_err();
+/// use puffsatchel::{read, Reading};
+///
+/// let refusal = read("\"a", Reading::rune(), 0).unwrap_err();
 /// assert_eq!(refusal.to_string(), "refused 16 at 0..2: the source ends in a string; close it with a quote");
 /// ```
 #[derive(Debug, Clone, Copy, PartialEq, Eq, Hash)]
@@ -106,6 +108,7 @@ reasons! {
     3 NoRoom: "the lent memory is full", "lend more";
     4 NoPlace: "the place is past the end or inside a scalar", "begin where a token ended";
     5 NoSuchForm: "the number names no form of a body", "give 1 to 5";
+    6 NoSuchReading: "the number names no reading", "give 1 or 2";
 
     10 ExpectedEscape: "the source ends behind a backslash", "say what it escapes";
     11 UnterminatedCharLit: "a control stands in a char", "close the char before it, or write an escape";

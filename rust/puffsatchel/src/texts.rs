@@ -1,6 +1,7 @@
 //! Calls that write text: the outline of a source, and what the body of a literal stands for.
 
 use crate::calls;
+use crate::reading::Reading;
 use crate::refusal::Refusal;
 
 /// Writes the source to the front of `out`, with `x` over every byte inside strings, byte strings, comments and templates.
@@ -9,13 +10,15 @@ use crate::refusal::Refusal;
 /// refusals 1, 2, and 3 for an `out` shorter than the source, have written nothing. Bytes behind it are unchanged.
 ///
 /// ```
+/// use puffsatchel::{outline, Reading};
+///
 /// let mut out = [0; 6];
-/// puffsatchel::outline("a\"bc\";", &mut out)?;
+/// outline("a\"bc\";", Reading::rune(), &mut out)?;
 /// assert_eq!(&out, b"a\"xx\";");
 /// # Ok::<(), puffsatchel::Refusal>(())
 /// ```
-pub fn outline<S: AsRef<[u8]> + ?Sized>(source: &S, out: &mut [u8]) -> Result<(), Refusal> {
-    calls::outline(source.as_ref(), out).or_refusal().map(drop)
+pub fn outline<S: AsRef<[u8]> + ?Sized>(source: &S, reading: Reading, out: &mut [u8]) -> Result<(), Refusal> {
+    calls::outline(source.as_ref(), reading, out).or_refusal().map(drop)
 }
 
 /// What a body is read as: what stands between the quotes of which literal.

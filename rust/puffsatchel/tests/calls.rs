@@ -1,50 +1,67 @@
 //! The calls that write. What is expected is document 01's; lent memory is filled with a mark first, and all of it is
 //! compared afterwards.
 
-use puffsatchel::{list, load, outline, store, unescape, Form, Kind, Reason, Refusal, Span, Stopped, Tokens};
+use puffsatchel::{list, load, outline, store, unescape, Form, Kind, Reading, Reason, Refusal, Span, Stopped, Tokens};
 
 const WORD: u32 = 0xa5a5_a5a5;
 const BYTE: u8 = 0xa5;
+
+const READINGS: [Reading; 2] = [Reading::rune(), Reading::first_close()];
 
 fn refused(refusal: Refusal) -> (u32, usize, usize) {
     (refusal.reason.number(), refusal.span.start, refusal.span.end)
 }
 
 /// The answer of `list` with room for so many words, and the words before and behind the end of that room.
-fn listed(source: &str, room: usize) -> (Result<usize, Stopped>, Vec<u32>) {
+fn listed(source: &str, reading: Reading, room: usize) -> (Result<usize, Stopped>, Vec<u32>) {
     let mut words = vec![WORD; room + 6];
-    let answer = list(source, &mut words[..room]);
+    let answer = list(source, reading, &mut words[..room]);
     (answer, words)
 }
 
 #[test]
 fn listing_writes_three_words_a_token() {
-    let (answer, words) = listed("a;", 8);
-    assert_eq!(answer, Ok(2));
-    assert_eq!(words[..6], [6, 0, 1, 31, 1, 2]);
-    assert!(words[6..].iter().all(|&word| word == WORD));
+    for reading in READINGS {
+        let (answer, words) = listed("a;", reading, 8);
+        assert_eq!(answer, Ok(2));
+        assert_eq!(words[..6], [6, 0, 1, 31, 1, 2]);
+        assert!(words[6..].iter().all(|&word| word == WORD));
+    }
+}
+
+#[test]
+fn listing_ends_comments_by_the_reading() {
+    let (answer, words) = listed("/**/x/**/", Reading::rune(), 27);
+    assert_eq!((answer, &words[..4]), (Ok(1), &[3, 0, 9, WORD][..]));
+
+    let (answer, words) = listed("/**/x/**/", Reading::first_close(), 27);
+    assert_eq!((answer, &words[..10]), (Ok(3), &[3, 0, 4, 6, 4, 5, 3, 5, 9, WORD][..]));
 }
 
 #[test]
 fn listing_stops_and_keeps_what_it_stored() {
-    let (answer, words) = listed("a ''", 20);
-    let stopped = answer.unwrap_err();
-    assert_eq!((stopped.count, refused(stopped.refusal)), (2, (12, 2, 4)));
-    assert_eq!(words[..6], [6, 0, 1, 1, 1, 2]);
-    assert!(words[6..].iter().all(|&word| word == WORD));
-    assert_eq!(stopped.to_string(), format!("after 2 tokens: {}", stopped.refusal));
+    for reading in READINGS {
+        let (answer, words) = listed("a ''", reading, 20);
+        let stopped = answer.unwrap_err();
+        assert_eq!((stopped.count, refused(stopped.refusal)), (2, (12, 2, 4)));
+        assert_eq!(words[..6], [6, 0, 1, 1, 1, 2]);
+        assert!(words[6..].iter().all(|&word| word == WORD));
+        assert_eq!(stopped.to_string(), format!("after 2 tokens: {}", stopped.refusal));
+    }
 }
 
 #[test]
 fn listing_refuses_the_token_without_room() {
-    let (answer, words) = listed("ab;", 5);
-    let stopped = answer.unwrap_err();
-    assert_eq!((stopped.count, refused(stopped.refusal)), (1, (3, 2, 3)));
-    assert_eq!(words[..3], [6, 0, 2]);
-    assert!(words[3..].iter().all(|&word| word == WORD));
+    for reading in READINGS {
+        let (answer, words) = listed("ab;", reading, 5);
+        let stopped = answer.unwrap_err();
+        assert_eq!((stopped.count, refused(stopped.refusal)), (1, (3, 2, 3)));
+        assert_eq!(words[..3], [6, 0, 2]);
+        assert!(words[3..].iter().all(|&word| word == WORD));
 
-    let (answer, _) = listed("", 0);
-    assert_eq!(answer, Ok(0));
+        let (answer, _) = listed("", reading, 0);
+        assert_eq!(answer, Ok(0));
+    }
 }
 
 #[test]
@@ -69,29 +86,50 @@ fn a_number_that_is_no_kind_ends_the_tokens_of_a_list() {
     }
 }
 
+/// The outline and its refusal; nothing after it is written.
+fn outlined(source: &str, reading: Reading) -> (String, Option<(u32, usize, usize)>) {
+    let mut out = vec![BYTE; source.len() + 4];
+    let answer = outline(source, reading, &mut out[..source.len() + 2]);
+    let rest = out.split_off(source.len());
+    assert_eq!(rest, [BYTE; 4], "{source:?}");
+    (String::from_utf8(out).unwrap(), answer.err().map(refused))
+}
+
 #[test]
 fn outlines() {
     let table = [
         ("a\"b\\\"c\";", "a\"xxxx\";", None),
         ("b\"ab\"//é\n", "b\"xx\"//xx\n", None),
         ("/*ab*/ `a${b}`", "/*xx*/ `xxxxx`", None),
-        ("/*a*/", "/*xxx", None),
+        ("/*/", "/*x", None),
         ("`{`", "`xx", None),
         ("\"a\" ''b", "\"x\" ''b", Some((12, 4, 7))),
     ];
 
-    for (source, outlined, refusal) in table {
-        let mut out = vec![BYTE; source.len() + 4];
-        let answer = outline(source, &mut out[..source.len() + 2]);
-        assert_eq!(answer.err().map(refused), refusal, "{source:?}");
-        assert_eq!(&out[..source.len()], outlined.as_bytes(), "{source:?}");
-        assert!(out[source.len()..].iter().all(|&byte| byte == BYTE), "{source:?}");
-    }
+    for reading in READINGS {
+        for (source, wanted, refusal) in table {
+            assert_eq!(outlined(source, reading), (wanted.to_owned(), refusal), "{source:?}");
+        }
 
-    for (source, room, refusal) in [(&b"ab"[..], 1, (3, 0, 0)), (b"a\xff", 2, (2, 1, 1))] {
-        let mut out = [BYTE; 4];
-        assert_eq!(outline(source, &mut out[..room]).err().map(refused), Some(refusal));
-        assert_eq!(out, [BYTE; 4]);
+        for (source, room, refusal) in [(&b"ab"[..], 1, (3, 0, 0)), (b"a\xff", 2, (2, 1, 1))] {
+            let mut out = [BYTE; 4];
+            assert_eq!(outline(source, reading, &mut out[..room]).err().map(refused), Some(refusal));
+            assert_eq!(out, [BYTE; 4]);
+        }
+    }
+}
+
+#[test]
+fn outlines_end_comments_by_the_reading() {
+    let table = [
+        ("/*a*/b", "/*xxxx", "/*x*/b"),
+        ("/**/x/**/", "/*xxxxx*/", "/**/x/**/"),
+        ("`\\/**/`x", "`xxxxxxx", "`xxxxx`x"),
+    ];
+
+    for (source, rune, first) in table {
+        assert_eq!(outlined(source, Reading::rune()), (rune.to_owned(), None), "{source:?}");
+        assert_eq!(outlined(source, Reading::first_close()), (first.to_owned(), None), "{source:?}");
     }
 }
 

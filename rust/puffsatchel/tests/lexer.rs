@@ -1,12 +1,14 @@
 //! Reading token by token. What is expected is document 01's.
 
-use puffsatchel::{read, test, Delimiter, Kind, Lexer, Reason, Refusal, Span, Token, LARGEST_SOURCE};
+use puffsatchel::{read, test, version, Delimiter, Kind, Lexer, Reading, Reason, Refusal, Span, Token, LARGEST_SOURCE, VERSION};
+
+type Numbers = (Vec<[usize; 3]>, Option<[usize; 4]>);
 
 /// The tokens as numbers, and the refusal that ended them as number, start, end, reached.
-fn numbers(source: &(impl AsRef<[u8]> + ?Sized)) -> (Vec<[usize; 3]>, Option<[usize; 4]>) {
+fn numbers(source: &(impl AsRef<[u8]> + ?Sized), reading: Reading) -> Numbers {
     let mut tokens = Vec::new();
     let mut refused = None;
-    let mut lexer = Lexer::new(source);
+    let mut lexer = Lexer::new(source, reading);
 
     for item in &mut lexer {
         assert_eq!(refused, None, "nothing comes behind a refusal");
@@ -23,17 +25,22 @@ fn numbers(source: &(impl AsRef<[u8]> + ?Sized)) -> (Vec<[usize; 3]>, Option<[us
     (tokens, refused)
 }
 
+/// What a source gives under either reading.
+fn both(source: &(impl AsRef<[u8]> + ?Sized)) -> Numbers {
+    let rune = numbers(source, Reading::rune());
+    assert_eq!(numbers(source, Reading::first_close()), rune, "the readings differ in comments only");
+    rune
+}
+
 const OPERATORS: &str = "! # $ % & ( ) * + , - . / : ; < = > ? @ [ ] ^ { | } ~ \
     != %= && &= *= += -= -> .. /= :: << <= == => >= >> ^= |= || ..= <<= >>=";
 
 #[test]
 fn examples() {
-    let table: [(&str, &[[usize; 3]], Option<[usize; 4]>); 16] = [
+    let table: [(&str, &[[usize; 3]], Option<[usize; 4]>); 14] = [
         ("", &[], None),
-        ("/**/", &[[4, 0, 4]], None),
-        ("/*a*/", &[[4, 0, 5]], None),
+        ("/*/", &[[4, 0, 3]], None),
         ("/*ab*/", &[[3, 0, 6]], None),
-        ("/**/x/**/", &[[3, 0, 9]], None),
         ("'A", &[[9, 0, 2]], None),
         ("'a", &[[15, 0, 2]], None),
         ("'a\n", &[], Some([11, 0, 2, 2])),
@@ -48,14 +55,33 @@ fn examples() {
     ];
 
     for (source, tokens, refused) in table {
-        assert_eq!(numbers(source), (tokens.to_vec(), refused), "{source:?}");
+        assert_eq!(both(source), (tokens.to_vec(), refused), "{source:?}");
+    }
+}
+
+#[test]
+fn comments_end_by_the_reading() {
+    let table: [(&str, &[[usize; 3]], &[[usize; 3]]); 8] = [
+        ("/**/", &[[4, 0, 4]], &[[3, 0, 4]]),
+        ("/* */", &[[4, 0, 5]], &[[3, 0, 5]]),
+        ("/*a*/", &[[4, 0, 5]], &[[3, 0, 5]]),
+        ("/***/", &[[4, 0, 5]], &[[3, 0, 5]]),
+        ("/*/*/", &[[4, 0, 5]], &[[3, 0, 5]]),
+        ("/*é*/", &[[4, 0, 6]], &[[3, 0, 6]]),
+        ("/**/x/**/", &[[3, 0, 9]], &[[3, 0, 4], [6, 4, 5], [3, 5, 9]]),
+        ("`\\/**/`x", &[[16, 0, 8]], &[[16, 0, 7], [6, 7, 8]]),
+    ];
+
+    for (source, rune, first) in table {
+        assert_eq!(numbers(source, Reading::rune()), (rune.to_vec(), None), "{source:?}");
+        assert_eq!(numbers(source, Reading::first_close()), (first.to_vec(), None), "{source:?}");
     }
 }
 
 #[test]
 fn operators_in_the_order_of_their_numbers() {
     for (number, operator) in (17..).zip(OPERATORS.split(' ')) {
-        assert_eq!(numbers(operator), (vec![[number, 0, operator.len()]], None), "{operator}");
+        assert_eq!(both(operator), (vec![[number, 0, operator.len()]], None), "{operator}");
     }
 }
 
@@ -76,14 +102,14 @@ fn refusals() {
     ];
 
     for (source, refused) in table {
-        assert_eq!(numbers(source), (vec![], Some(refused)), "{source:?}");
+        assert_eq!(both(source), (vec![], Some(refused)), "{source:?}");
     }
 }
 
 #[test]
 fn the_test_comes_first() {
-    assert_eq!(numbers(b"a\xff"), (vec![], Some([2, 1, 1, 1])));
-    assert_eq!(numbers(&vec![b'a'; LARGEST_SOURCE]), (vec![[6, 0, LARGEST_SOURCE]], None));
+    assert_eq!(both(b"a\xff"), (vec![], Some([2, 1, 1, 1])));
+    assert_eq!(both(&vec![b'a'; LARGEST_SOURCE]), (vec![[6, 0, LARGEST_SOURCE]], None));
 
     let refusal = test(&vec![b'a'; LARGEST_SOURCE + 1]).unwrap_err();
     assert_eq!((refusal.reason, refusal.span), (Reason::TooLong, Span { start: 0, end: 0 }));
@@ -93,22 +119,27 @@ fn the_test_comes_first() {
 #[test]
 fn depth() {
     let nested = |depth: usize| vec!["`"; depth].join("\\") + &"`".repeat(depth);
-    assert_eq!(numbers(&nested(64)), (vec![[16, 0, nested(64).len()]], None));
+    assert_eq!(both(&nested(64)), (vec![[16, 0, nested(64).len()]], None));
 
     // The 65th backtick stands behind 64 others, each but the first with its backslash.
-    let (tokens, refused) = numbers(&nested(65));
+    let (tokens, refused) = both(&nested(65));
     assert_eq!((tokens, refused.map(|[number, start, end, _]| [number, start, end])), (vec![], Some([19, 0, 129])));
 }
 
 #[test]
 fn one_token_at_a_place() {
-    assert_eq!(read("a;", 1), Ok(Token { kind: Kind::SemiColon, span: Span { start: 1, end: 2 } }));
-    assert_eq!(read("a;", 2), Ok(Token { kind: Kind::Eof, span: Span { start: 2, end: 2 } }));
+    for reading in [Reading::rune(), Reading::first_close()] {
+        assert_eq!(read("a;", reading, 1), Ok(Token { kind: Kind::SemiColon, span: Span { start: 1, end: 2 } }));
+        assert_eq!(read("a;", reading, 2), Ok(Token { kind: Kind::Eof, span: Span { start: 2, end: 2 } }));
 
-    for (source, place) in [("a;", 3), ("é", 1), ("", usize::MAX)] {
-        let refusal = read(source, place).unwrap_err();
-        assert_eq!((refusal.reason, refusal.span), (Reason::NoPlace, Span { start: place, end: place }));
+        for (source, place) in [("a;", 3), ("é", 1), ("", usize::MAX)] {
+            let refusal = read(source, reading, place).unwrap_err();
+            assert_eq!((refusal.reason, refusal.span), (Reason::NoPlace, Span { start: place, end: place }));
+        }
     }
+
+    let end = |reading| read("a/**/b*/", reading, 1).map(|token| token.span.end);
+    assert_eq!((end(Reading::rune()), end(Reading::first_close())), (Ok(8), Ok(5)));
 }
 
 #[test]
@@ -130,21 +161,26 @@ fn kinds_and_their_numbers() {
 
 #[test]
 fn every_reason_says_what_and_what_to_do() {
-    for number in (1..=5).chain(10..=27).chain(30..=34).chain(40..=43) {
+    for number in (1..=6).chain(10..=27).chain(30..=34).chain(40..=43) {
         let reason = Reason::from_number(number).unwrap();
         assert_eq!(reason.number(), number);
         assert_eq!(reason.to_string().matches("; ").count(), 1, "{reason:?}");
     }
 
-    for number in [0, 6, 9, 28, 35, 39, 44] {
+    for number in [0, 7, 9, 28, 35, 39, 44] {
         assert_eq!(Reason::from_number(number), None);
     }
 
-    let refusal = read("''", 0).unwrap_err();
+    let refusal = read("''", Reading::rune(), 0).unwrap_err();
     let error: &dyn std::error::Error = &refusal;
     assert_eq!(error.to_string(), "refused 12 at 0..2: a char is empty; put a scalar between its quotes");
 
     // The lookahead's have no place.
     let refusal = Refusal { reason: Reason::PastHeld, span: Span::default(), reached: 0 };
     assert_eq!(refusal.to_string(), "refused 32: the advance goes past the held tokens; fill before it");
+}
+
+#[test]
+fn wrapper_and_archive_are_of_one_version() {
+    assert_eq!((version(), VERSION), (4, 4));
 }

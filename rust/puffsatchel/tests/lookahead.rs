@@ -1,12 +1,12 @@
 //! The lookahead. What is expected is document 01's; stores are filled with a mark first, and all of them is compared.
 
-use puffsatchel::{list, Kind, Lookahead, Refusal, Whitespace};
+use puffsatchel::{list, Kind, Lookahead, Reading, Refusal, Whitespace};
 
 const WORD: u32 = 0xa5a5_a5a5;
 
 fn listed(source: &str) -> Vec<u32> {
     let mut words = vec![0; 3 * source.len()];
-    let count = list(source, &mut words).unwrap();
+    let count = list(source, Reading::rune(), &mut words).unwrap();
     words.truncate(3 * count);
     words
 }
