@@ -18,7 +18,7 @@ version = 4
 abbrev pub testTells : List ℕ → Told
 testTells s = ofTested (sourceTest s)
 
--- the number of a reading comes right after the source
+-- those that read a token take the number of a reading
 abbrev pub readTells : ℕ → List ℕ → ℕ → Told
 readTells n s at = tellsBy (readingOf n) (λ g. ofRead (readAt g s at))
 
