@@ -116,6 +116,18 @@ pub(crate) fn comments(size: usize) -> String {
     })
 }
 
+/// Comments that begin with a star more, as those do that say what stands below them, and with a star before each line.
+pub(crate) fn starred(size: usize) -> String {
+    filled(size, '\n', |chance, out| {
+        out.push_str("/**");
+        for _ in 0..chance.below(4) {
+            out.push_str("\n * ");
+            words(chance, out, 6, 8, &WORDS);
+        }
+        out.push_str(chance.pick(&["\n */\n", " */\n"]));
+    })
+}
+
 pub(crate) fn strings(size: usize) -> String {
     filled(size, '\n', |chance, out| {
         *out += &format!("{} = ", chance.pick(&NAMES));

@@ -155,13 +155,14 @@ fn bodies_of(source: &str) -> Vec<Body> {
     tokens.into_iter().filter_map(body).collect()
 }
 
-fn sources(size: usize) -> [(&'static str, String); 5] {
+fn sources(size: usize) -> [(&'static str, String); 6] {
     [
         ("typical rules", inputs::typical(size)),
         ("mostly comments", inputs::comments(size)),
         ("strings, templates", inputs::strings(size)),
         ("operators", inputs::operators(size)),
         ("not ASCII", inputs::not_ascii(size)),
+        ("starred comments", inputs::starred(size)),
     ]
 }
 
@@ -224,7 +225,8 @@ fn cases() -> Vec<Case> {
             let work = Work::Unescape(bodies);
             cases.push(Case::new(input, size, work));
         }
-        cases.extend(looks(size, &sources));
+        // To the lookahead a comment is a token, starred or not.
+        cases.extend(looks(size, &sources[..5]));
     }
 
     cases

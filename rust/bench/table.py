@@ -10,8 +10,8 @@ import sys
 BOUNDS = {"ascii": 1.0, "wide": 1.1}
 # Says what a part of another call costs, and has no bound of its own.
 UNBOUND = {"look alone"}
-# The listing to the first close over that by rune's reading: it tests the two scalars of each comment that the other passes over, and no more.
-FIRST_CLOSE = 1.002
+# The listing to the first close over that by rune's reading.
+FIRST_CLOSE = 1.0
 # Cost a byte at 64 KiB over that at 1 KiB: above this it is no longer flat.
 FLAT = 1.1
 

@@ -15,6 +15,10 @@ fill('of_read', {
 fill('form/form_of', {
     **{'returns' + ('' if k == 1 else f'-{k}'): ('formOf', f'sym (ap formOf (@match .keys{k}))') for k in range(1, 6)},
     'returns-6': 'form-none _ ' + ' '.join('(@match .rest' + ' .0' * (5 - k) + ' .1)' for k in range(1, 6))})
+N = '(@Start .args .n)'
+NONE = f'reading-none {N} (λ (e : {N} ≡ 1). omega arith) (λ (e : {N} ≡ 2). omega arith)'
 fill('reading/reading_of', {
-    **{'returns' + ('' if k == 1 else f'-{k}'): ('readingOf', f'sym (ap readingOf (@match .keys{k}))') for k in range(1, 3)},
-    'returns-3': 'reading-none _ (@match .rest .0 .1) (@match .rest .1)'})
+    'returns': NONE,
+    'returns-2': ('readingOf', f'let e : {N} ≡ 1 = omega arith in sym (ap readingOf e)'),
+    'returns-3': NONE,
+    'returns-4': ('readingOf', f'let e : {N} ≡ 2 = omega arith in sym (ap readingOf e)')})

@@ -5,12 +5,12 @@ use mathlib.Core.List.{List, [], _∷_}
 use mathlib.Core.Bool.{Bool, true, not}
 use native.Mathlib.Omega.{arith}
 use lib.Dec.{eqb}
-use lib.ListN.{List·getD-eq-default, getD, length}
+use lib.ListN.{getD, length}
 use borrow.Author.Tests.{eq-eqb, eqb-false, eqb-true, ne-eqb, not-true}
 use Rattle.choice.proofs.Choice.{first-other, other-found}
 use Rattle.choice.specs.Rule.{firstOf, noTemplate}
 use Rattle.classes.specs.Classes.{isWhiteSpace, whiteSpace}
-use Rattle.laws.proofs.Cases.{both-false, both-inv, either-true, never, split, split-eq, split-le, within-inv}
+use Rattle.laws.proofs.Cases.{both-false, both-inv, either-true, never, split, split-eq, within-inv}
 use Rattle.laws.specs.Bools.{both, within}
 use Rattle.laws.specs.Tables.{inRanges}
 use Rattle.lexer.proofs.Sources.{later-token}
@@ -24,9 +24,8 @@ use Rattle.readers.specs.Rules.{rulesOf}
 use Rattle.readers.specs.declared.reading.Reading.{Reading}
 use Rattle.templates.proofs.Turns.{token-plain}
 use Rattle.templates.specs.Body.{tokenOf}
-use Rattle.text.proofs.Decode.{Step, by-first, by-step, end-first, first-at, step-ascii, step-first}
-use Rattle.text.proofs.Leads.{lead-whole, value-zero, width-1}
-use Rattle.text.specs.Utf8.{rest, seq, width}
+use Rattle.text.proofs.Decode.{Step, by-step, byte-step, step-byte}
+use Rattle.text.specs.Utf8.{rest, width}
 use Rattle.token.specs.Reads.{gotOf}
 use Rattle.token.specs.declared.kind.Kind.{Kind}
 use Rattle.token.specs.declared.kind.Known.{Known}
@@ -102,27 +101,11 @@ by-known (Is k) f g = g k refl
 
 module _ (s : List ℕ) where
   -- a byte of a row is the scalar there, and a scalar of a row is the byte there
-  byte-step : (i : ℕ) → inRow (getD s i 0) ≡ true → Step s i (getD s i 0) (i + 1)
-  byte-step i h =
-      let w = within-inv 1 127 (getD s i 0) h in
-      step-ascii s i (split-le (length s) i (λ l. absurd (omega (arith, List·getD-eq-default s 0 l))) (λ l. l)) (w .1)
+  row-step : (i : ℕ) → inRow (getD s i 0) ≡ true → Step s i (getD s i 0) (i + 1)
+  row-step i h = let w = within-inv 1 127 (getD s i 0) h in byte-step s i (w .0) (w .1)
 
-  step-byte : (i w n : ℕ) → Step s i w n → inRow w ≡ true → (w ≡ getD s i 0) × (n ≡ i + 1)
-  step-byte i w n t h =
-      let one = width-1 w (within-inv 1 127 w h .1) in
-      let l : i < length s = omega (arith, t .past, t .room) in
-      let y = t .here in (
-        split-le (getD s i 0) 127 (λ k. let z = step-ascii s i l k .here in cc)
-            (λ k.
-            by-first s i (λ e. never (let z = end-first s i e in cc))
-            (λ v e q.
-            let z = step-first s i v e q .here in
-            let ev : v ≡ w = cc in
-            let wide = lead-whole _ _ _ _ v e (sym (first-at s i l) ∙ q) .wide in
-            let none : e ≡ 0 = omega (arith, ap width ev) in
-            absurd (value-zero _ _ _ _ v k (sym (first-at s i l) ∙ q ∙ ap (seq v) none)))),
-        omega (arith, t .next),
-      )
+  row-byte : (i w n : ℕ) → Step s i w n → inRow w ≡ true → (w ≡ getD s i 0) × (n ≡ i + 1)
+  row-byte i w n t h = step-byte s i w n t (within-inv 1 127 w h .1)
 
   module _ (a i : ℕ) where
     two-bytes : findTwo width a (rest s i) i ≡ foundAt (lookTwo twos a (getD s i 0)) (i + 1)
@@ -130,8 +113,8 @@ module _ (s : List ℕ) where
     two-bytes =
         by-known (lookTwo twos a (getD s i 0))
         (λ e. by-step s i (λ z. rw (z, e))
-        (λ w n t. rw (t .here, e) (by-known (lookTwo twos a w) (λ u. rw u) (λ k u. never (let p = step-byte i w n t (two-row a w k u .1) .0 in cc)))))
-        (λ k e. let t = byte-step i (two-row a (getD s i 0) k e .1) in rw (t .here) (ap (foundAt (lookTwo twos a (getD s i 0))) (sym (t .next))))
+        (λ w n t. rw (t .here, e) (by-known (lookTwo twos a w) (λ u. rw u) (λ k u. never (let p = row-byte i w n t (two-row a w k u .1) .0 in cc)))))
+        (λ k e. let t = row-step i (two-row a (getD s i 0) k e .1) in rw (t .here) (ap (foundAt (lookTwo twos a (getD s i 0))) (sym (t .next))))
 
     three-bytes : findThree width a (rest s i) i ≡ foundAt (lookThree threes a (getD s i 0) (getD s (i + 1) 0)) (i + 2)
     unfolding findThree
@@ -142,13 +125,13 @@ module _ (s : List ℕ) where
         (λ x m u. rw (t .here, u .here, e) (by-known (lookThree threes a w x) (λ v. rw v)
         (λ k v.
         let r = three-row a w x k v in
-        let p = step-byte i w n t (r .1) in
-        let q = step-byte n x m u (r .2) in
+        let p = row-byte i w n t (r .1) in
+        let q = row-byte n x m u (r .2) in
         never (cc))))))
         (λ k e.
         let r = three-row a (getD s i 0) (getD s (i + 1) 0) k e in
-        let t = byte-step i (r .1) in
-        let u = byte-step (i + 1) (r .2) in
+        let t = row-step i (r .1) in
+        let u = row-step (i + 1) (r .2) in
         rw (t .here, u .here) (ap (foundAt (lookThree threes a (getD s i 0) (getD s (i + 1) 0))) (omega (arith, t .next, u .next))))
 
 -- what is found by three bytes: at a place of a source it ends as far behind as it is long
@@ -195,7 +178,7 @@ module _ (g : Reading) (s : List ℕ) (at : ℕ) where
       → gotOf k at e ≡ nextAt g s at
   unfolding laterAt
   first-next k e i u v h =
-      let here = byte-step s at i in
+      let here = row-step s at i in
       let whole : gotOf k at e ≡ tokenOf (rulesOf g) 64 (rest s at) at = h ∙ token-plain g 64 s at (getD s at 0) (at + 1) here v in
       ap (closeSpan (length s)) whole ∙ later-token g s at (rw (here .here, ne-eqb (getD s at 0) 35 u, both-false))
 

@@ -23,19 +23,18 @@ fill('comments/pass_one', {
 fill('comments/pass_untested', {
     'returns': '@pass-one2 .ensures ∙ simp (@enum-told .given .1, @pass-one .ensures)',
     'returns-2': 'simp (@enum-told2 .given .1)'}, macros=M)
-C = dict(M, v2='(@after .given .0 .0)', n2='(@after .given .0 .1 .0)', cs='(rest $s$ $n$)',
-         two='(step-one $s$ $n$ $v2$ $n2$ (sym (@scalar-at2 .ensures) ∙ @after .given .1))',
-         star='(comment-star $v$ $cs$ (@if1 .taken))', starred='(goes-on commentStep _ _ _ _ $g$ $v$ $n$ $step$ starred $star$)')
 fill('comments/comment_end', {
-    'Inv-loop': 'Goes commentStep (skips 0) s p (scan commentStep width (skips 0) at (rest s at) at)', 'μ-loop': 'length s - p',
-    'loop-holds': '($at$, refl)',
-    'returns': ('commentEnd', 'ap endedOf (goes-end commentStep _ _ _ _ $g$ $end$)'),
-    'returns-2': ('commentEnd', 'ap endedOf (goes-cut commentStep _ _ _ _ $g$ $v$ $n$ $step$ starred $star$ (step-none $s$ $n$ (sym (@scalar-at2 .ensures) ∙ @enum-told2 .given .1)))'),
-    'returns-3': ('commentEnd', 'ap endedOf (goes-behind commentStep _ _ _ _ $starred$ $v2$ $n2$ $two$ starred (comment-close $v2$ (rest $s$ $n2$) (@if2 .taken)))'),
-    'loop-less': 'let t = $step$ in omega arith',
-    'loop-again': 'comment-bare _ _ _ _ _ $two$ (@if2 .left) $starred$',
+    'Inv-loop': 'endsFrom s p ≡ endsFrom s at', 'μ-loop': 'length s - p',
+    'loop-holds': 'refl',
+    'add-p': 'omega (arith, (star-step $s$ $p$ $star$) .room)',
+    'add-t10': 'omega (arith, (slash-step $s$ $p$ $star$ $slash$) .room)',
+    'returns': 'comment-close $s$ $p$ $star$ $slash$ ∙ $g$',
+    'loop-less': 'let t = star-step $s$ $p$ $star$ in omega arith',
+    'loop-again': 'comment-bare $s$ $p$ $star$ (λ e. @if2 .left (@byte-at2 .ensures ∙ e)) ∙ $g$',
+    'returns-2': 'comment-none 0 $s$ $p$ $end$ ∙ $g$',
     'loop-less-2': 'let t = $step$ in omega arith',
-    'loop-again-2': 'goes-on commentStep _ _ _ _ $g$ $v$ $n$ $step$ (skips 0) (comment-more $v$ $cs$ (@if1 .left))'}, macros=C)
+    'loop-again-2': 'comment-more $s$ $p$ _ _ $step$ (λ e. @if1 .left (@byte-at .ensures ∙ e)) ∙ $g$'},
+    macros=dict(M, star='(sym (@byte-at .ensures) ∙ @if1 .taken)', slash='(sym (@byte-at2 .ensures) ∙ @if2 .taken)', step='(step-one $s$ $p$ _ _ (sym (@scalar-at .ensures) ∙ @next .given .1))'))
 fill('comments/next_multiline_comment', {
     'returns': ('commentOf', '@got .ensures ∙ ap (λ (e : Ended). gotOf (MultilineComment (e .closed)) (@Start .args .start) (e .end)) (@comment-end .ensures ∙ comment-untested (@Start .args .comments) $s$ $at$ (@pass-untested .result) (@pass-untested .ensures))')},
     macros=M)

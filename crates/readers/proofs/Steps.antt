@@ -1,47 +1,20 @@
 -- What the code's tests say of each reader's step, in the order of the readers. Assumes nothing.
-use Prim.Native.Nat.{ℕ, suc}
-use mathlib.Core.Path.{_≡_, refl, sym, ap, _∙_}
-use mathlib.Core.List.{List, []}
+use Prim.Native.Nat.{ℕ}
+use mathlib.Core.Path.{_≡_, refl}
+use mathlib.Core.List.{List}
 use mathlib.Core.Bool.{Bool, true, false}
 use native.Mathlib.Omega.{arith}
 use borrow.Author.Tests.{eq-eqb, ne-eqb}
 use Rattle.classes.specs.Classes.{isControl}
 use Rattle.laws.specs.Bools.{both}
-use Rattle.readers.proofs.Scans.{Goes, scan-end, scan-last, scan-on}
-use Rattle.readers.specs.Readers.{Closing, Digits, beginsDigit, body, broken, byteStep, charAnswer, charStep, commentEnd, commentStep, control, endedOf, escape, fractional, inLabel, inNumber, integral, letters, numberStep, passOne, runStep, shut, skips, slash, slashed, starred, strStep, text, untested}
-use Rattle.readers.specs.Rules.{skipOf}
-use Rattle.readers.specs.Scan.{How, Stop, before, behind, on, scan, stopAt}
-use Rattle.readers.specs.declared.reading.Comments.{Comments}
-use Rattle.readers.specs.declared.reading.Comments.the-variants.{Crate, First}
-use Rattle.text.proofs.Decode.{Step, by-step}
-use Rattle.text.specs.Utf8.{rest, width}
+use Rattle.readers.specs.Readers.{Digits, beginsDigit, body, broken, byteStep, charAnswer, charStep, control, escape, fractional, inLabel, inNumber, integral, letters, numberStep, runStep, shut, slash, slashed, strStep, text}
+use Rattle.readers.specs.Scan.{before, behind, on}
 
 pub run-yes : (f : ℕ → Bool) (v : ℕ) (cs : List ℕ) → f v ≡ true → runStep f tt v cs ≡ on tt
 run-yes f v cs h = rw h
 
 pub run-no : (f : ℕ → Bool) (v : ℕ) (cs : List ℕ) → f v ≡ false → runStep f tt v cs ≡ before tt
 run-no f v cs h = rw h
-
-pub comment-star : (v : ℕ) (cs : List ℕ) → v ≡ 42 → commentStep (skips 0) v cs ≡ on starred
-unfolding commentStep
-comment-star v cs h = rw (eq-eqb v 42 h, commentStep)
-
-pub comment-close : (v : ℕ) (cs : List ℕ) → v ≡ 47 → commentStep starred v cs ≡ behind starred
-unfolding commentStep
-comment-close v cs h = rw (eq-eqb v 47 h, commentStep)
-
-pub comment-more : (v : ℕ) (cs : List ℕ) → (v ≡ 42 → ⊥) → commentStep (skips 0) v cs ≡ on (skips 0)
-unfolding commentStep
-comment-more v cs h = rw (ne-eqb v 42 h, commentStep)
-
-bare-step : (v : ℕ) (cs : List ℕ) → (v ≡ 47 → ⊥) → commentStep (skips 0) v cs ≡ commentStep starred v cs
-unfolding commentStep
-bare-step v cs h = rw (ne-eqb v 47 h, commentStep)
-
--- a star that no slash follows is as good as none
-pub comment-bare : (s : List ℕ) (p v n : ℕ) (o : Stop Closing) → Step s p v n → (v ≡ 47 → ⊥) → Goes commentStep starred s p o → Goes commentStep (skips 0) s p o
-unfolding scan
-comment-bare s p v n o t h (l, e) = (l, rw (t .here) (rw (bare-step v (rest s n) h, scan) refl) ∙ e)
 
 module _ (v : ℕ) (cs : List ℕ) where
   pub byte-slash : v ≡ 92 → byteStep body v cs ≡ on slash
@@ -132,29 +105,6 @@ module _ (l m : Bool) (v : ℕ) (cs : List ℕ) where
           pub char-other : both l m ≡ false → charStep (letters l m) v cs ≡ on (letters false true)
           unfolding charStep
           char-other h = rw (ne-eqb v 92 n, ne-eqb v 39 q, k, i, h, charStep)
-
--- a scalar passed over, at the end of the text too
-pub pass-none : (s : List ℕ) (at : ℕ) → rest s at ≡ [] → at ≡ passOne width (rest s at) at
-pass-none s at e = rw e
-
-pub pass-step : (s : List ℕ) (at v n : ℕ) → Step s at v n → n ≡ passOne width (rest s at) at
-pass-step s at v n t = rw (t .here) (t .next)
-
-module _ (k : ℕ) (s : List ℕ) (at : ℕ) where
-  comment-skip : (q : ℕ) → q ≡ passOne width (rest s at) at → commentEnd width k (rest s q) q ≡ commentEnd width (suc k) (rest s at) at
-  unfolding commentEnd commentStep
-  comment-skip q h =
-      by-step s at
-      (λ e. rw (h ∙ sym (pass-none s at e)) (sym (ap endedOf (scan-end commentStep (skips k) at s at e)) ∙ ap endedOf (scan-end commentStep (skips (suc k)) at s at e)))
-      (λ v n t.
-      rw (h ∙ sym (pass-step s at v n t))
-      (scan-last commentStep width (λ (st : Closing) (p : ℕ) (w : How). endedOf (stopAt st p p w)) (skips k) n at (rest s n) n
-      ∙ ap endedOf (scan-on commentStep (skips (suc k)) at s at v n t (skips k) refl)))
-
--- a comment is looked for from after what it passes over on
-pub comment-untested : (c : Comments) (s : List ℕ) (at q : ℕ) → q ≡ untested c s at → commentEnd width 0 (rest s q) q ≡ commentEnd width (skipOf c) (rest s at) at
-comment-untested Crate s at q e = let one = passOne width (rest s at) at in comment-skip 0 s one q e ∙ comment-skip 1 s at one refl
-comment-untested First s at q e = rw e
 
 -- the last place counts only behind a backslash, and a closed char answers as one that ended with its label lost
 pub answer-last : (a : ℕ) (l m : Bool) (p q e : ℕ) → charAnswer a (letters l m) p e ≡ charAnswer a (letters l m) q e

@@ -73,28 +73,23 @@ fn comment_end(s: &[u8], at: usize) -> Ended
 {
     let mut p = at;
     loop {
-        let Scalar::One { value, next } = text::scalar_at(s, p) else {
-            break Ended {
-                end: p,
-                closed: false,
-            };
-        };
-        if value == 42 {
-            let Scalar::One {
-                value: after,
-                next: end,
-            } = text::scalar_at(s, next)
-            else {
+        if text::byte_at(s, p) == 42 {
+            p = p + 1;
+            if text::byte_at(s, p) == 47 {
                 break Ended {
-                    end: next,
+                    end: p + 1,
+                    closed: true,
+                };
+            }
+        } else {
+            let Scalar::One { value: _, next } = text::scalar_at(s, p) else {
+                break Ended {
+                    end: p,
                     closed: false,
                 };
             };
-            if after == 47 {
-                break Ended { end, closed: true };
-            }
+            p = next;
         }
-        p = next;
     }
 }
 

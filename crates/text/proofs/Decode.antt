@@ -6,10 +6,10 @@ use mathlib.Core.Bool.{true}
 use native.Mathlib.Omega.{arith}
 use lib.Dec.{leb}
 use lib.Seq.{drop-cons, drop-drop, getD-drop}
-use lib.ListN.{drop, drop-of-length-le, getD, length, length-drop}
+use lib.ListN.{List·getD-eq-default, drop, drop-of-length-le, getD, length, length-drop}
 use borrow.Author.Tests.{le-leb}
-use Rattle.laws.proofs.Cases.{never, split, split-eq}
-use Rattle.text.proofs.Leads.{Whole, lead-whole, tail-inv, value-zero, wide-lead}
+use Rattle.laws.proofs.Cases.{never, split, split-eq, split-le}
+use Rattle.text.proofs.Leads.{Whole, lead-whole, tail-inv, value-zero, wide-lead, width-1}
 use Rattle.text.specs.Utf8.{Lead, after, bad, decode, first, from, headAt, leadOf, rest, scalarAt, secondAt, secondOf, seq, stepOf, tail, valueOf, wideOf, width}
 use Rattle.text.specs.declared.utf8.Scalar.the-variants.{None, One}
 
@@ -131,6 +131,27 @@ rest-end s at h = end-first s at (rw (drop-of-length-le s h))
 pub step-ascii : (s : List ℕ) (at : ℕ) → at < length s → getD s at 0 ≤ 0x7f → Step s at (getD s at 0) (at + 1)
 unfolding leadOf
 step-ascii s at h k = step-first s at (getD s at 0) 0 (first-at s at h ∙ simp (le-leb _ _ k))
+
+-- a byte below 0x80 that is not 0 stands inside the text, and a scalar below 0x80 is the byte there
+pub byte-step : (s : List ℕ) (at : ℕ) → 0 < getD s at 0 → getD s at 0 ≤ 0x7f → Step s at (getD s at 0) (at + 1)
+byte-step s at h k = step-ascii s at (split-le (length s) at (λ l. absurd (omega (arith, List·getD-eq-default s 0 l))) (λ l. l)) k
+
+pub step-byte : (s : List ℕ) (at v n : ℕ) → Step s at v n → v ≤ 0x7f → (v ≡ getD s at 0) × (n ≡ at + 1)
+step-byte s at v n t h =
+    let one = width-1 v h in
+    let l : at < length s = omega (arith, t .past, t .room) in
+    let y = t .here in (
+      split-le (getD s at 0) 0x7f (λ k. let z = step-ascii s at l k .here in cc)
+          (λ k.
+          by-first s at (λ e. never (let z = end-first s at e in cc))
+          (λ w e q.
+          let z = step-first s at w e q .here in
+          let ev : w ≡ v = cc in
+          let wide = lead-whole _ _ _ _ w e (sym (first-at s at l) ∙ q) .wide in
+          let none : e ≡ 0 = omega (arith, ap width ev) in
+          absurd (value-zero _ _ _ _ w k (sym (first-at s at l) ∙ q ∙ ap (seq w) none)))),
+      omega (arith, t .next),
+    )
 
 pub wide-bytes : (a : ℕ) {b b′ c c′ d d′ : ℕ} → b ≡ b′ → c ≡ c′ → d ≡ d′ → wideOf a b c d ≡ wideOf a b′ c′ d′
 wide-bytes a p q r = λ i. wideOf a (p i) (q i) (r i)

@@ -1,10 +1,10 @@
 use mathlib.Core.Path.{ap, _∙_}
 use borrow.Author.Needs.{needs}
-use Rattle.readers.proofs.Steps.{comment-untested}
+use Rattle.readers.proofs.Ends.{comment-untested}
 use Rattle.readers.specs.Readers.{commentOf}
 use Rattle.readers.specs.declared.comments.Ended.{Ended}
-use Rattle.token.specs.declared.kind.Kind.the-variants.{MultilineComment}
 use Rattle.token.specs.Reads.{gotOf}
+use Rattle.token.specs.declared.kind.Kind.the-variants.{MultilineComment}
 use Rattle.readers.proofs.comments.next_multiline_comment.Statement.{statement}
 use Rattle.readers.proofs.comments.next_multiline_comment.Tie as tie
 

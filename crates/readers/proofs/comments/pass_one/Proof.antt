@@ -1,6 +1,6 @@
 use mathlib.Core.Path.{sym, _∙_}
 use borrow.Author.Needs.{needs}
-use Rattle.readers.proofs.Steps.{pass-none, pass-step}
+use Rattle.readers.proofs.Ends.{pass-none, pass-step}
 use Rattle.text.proofs.Decode.{step-none, step-one}
 use Rattle.readers.proofs.comments.pass_one.Statement.{statement}
 use Rattle.readers.proofs.comments.pass_one.Tie as tie
