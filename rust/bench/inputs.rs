@@ -116,7 +116,7 @@ pub(crate) fn comments(size: usize) -> String {
     })
 }
 
-/// Comments that begin with a star more, as those do that say what stands below them, and with a star before each line.
+/// Comments that begin with one star more, as those do that say what stands below them, and have a star before each line.
 pub(crate) fn starred(size: usize) -> String {
     filled(size, '\n', |chance, out| {
         out.push_str("/**");

@@ -26,15 +26,15 @@ fill('comments/pass_untested', {
 fill('comments/comment_end', {
     'Inv-loop': 'endsFrom s p ≡ endsFrom s at', 'μ-loop': 'length s - p',
     'loop-holds': 'refl',
-    'add-p': 'omega (arith, (star-step $s$ $p$ $star$) .room)',
-    'add-t10': 'omega (arith, (slash-step $s$ $p$ $star$ $slash$) .room)',
+    'add-p': '$inside$',
+    'add-t10': 'let e = $slash$ in let t = byte-step $s$ ($p$ + 1) (omega arith) (omega arith) in omega arith',
     'returns': 'comment-close $s$ $p$ $star$ $slash$ ∙ $g$',
-    'loop-less': 'let t = star-step $s$ $p$ $star$ in omega arith',
+    'loop-less': '$inside$',
     'loop-again': 'comment-bare $s$ $p$ $star$ (λ e. @if2 .left (@byte-at2 .ensures ∙ e)) ∙ $g$',
     'returns-2': 'comment-none 0 $s$ $p$ $end$ ∙ $g$',
     'loop-less-2': 'let t = $step$ in omega arith',
     'loop-again-2': 'comment-more $s$ $p$ _ _ $step$ (λ e. @if1 .left (@byte-at .ensures ∙ e)) ∙ $g$'},
-    macros=dict(M, star='(sym (@byte-at .ensures) ∙ @if1 .taken)', slash='(sym (@byte-at2 .ensures) ∙ @if2 .taken)', step='(step-one $s$ $p$ _ _ (sym (@scalar-at .ensures) ∙ @next .given .1))'))
+    macros=dict(M, inside='let e = $star$ in let t = byte-step $s$ $p$ (omega arith) (omega arith) in omega arith', star='(sym (@byte-at .ensures) ∙ @if1 .taken)', slash='(sym (@byte-at2 .ensures) ∙ @if2 .taken)', step='(step-one $s$ $p$ _ _ (sym (@scalar-at .ensures) ∙ @next .given .1))'))
 fill('comments/next_multiline_comment', {
     'returns': ('commentOf', '@got .ensures ∙ ap (λ (e : Ended). gotOf (MultilineComment (e .closed)) (@Start .args .start) (e .end)) (@comment-end .ensures ∙ comment-untested (@Start .args .comments) $s$ $at$ (@pass-untested .result) (@pass-untested .ensures))')},
     macros=M)

@@ -59,19 +59,14 @@ module _ (s : List ℕ) (p : ℕ) where
       ends-last (skips 0) n p (rest s n) n ∙ ap endedOf (scan-on commentStep (skips 0) p s p v n t (skips 0) (rw (ne-eqb v 42 other, commentStep)))
 
   module _ (h : getD s p 0 ≡ 42) where
-    pub star-step : Step s p (getD s p 0) (p + 1)
-    star-step = byte-step s p (omega arith) (omega arith)
-
     comment-star : endedOf (scan commentStep width starred p (rest s (p + 1)) (p + 1)) ≡ endsFrom s p
     unfolding commentEnd commentStep
-    comment-star = ap endedOf (scan-on commentStep (skips 0) p s p _ _ star-step starred (rw (eq-eqb _ 42 h, commentStep)))
-
-    pub slash-step : getD s (p + 1) 0 ≡ 47 → Step s (p + 1) (getD s (p + 1) 0) (p + 1 + 1)
-    slash-step e = byte-step s (p + 1) (omega arith) (omega arith)
+    comment-star = ap endedOf (scan-on commentStep (skips 0) p s p _ _ (byte-step s p (omega arith) (omega arith)) starred (rw (eq-eqb _ 42 h, commentStep)))
 
     pub comment-close : getD s (p + 1) 0 ≡ 47 → record { end = p + 1 + 1; closed = true } ≡ endsFrom s p
     unfolding commentStep
-    comment-close e = ap endedOf (scan-behind commentStep starred p s (p + 1) _ _ (slash-step e) starred (rw (eq-eqb _ 47 e, commentStep))) ∙ comment-star
+    comment-close e =
+        ap endedOf (scan-behind commentStep starred p s (p + 1) _ _ (byte-step s (p + 1) (omega arith) (omega arith)) starred (rw (eq-eqb _ 47 e, commentStep))) ∙ comment-star
 
     -- a star that no slash follows is as good as none
     pub comment-bare : (getD s (p + 1) 0 ≡ 47 → ⊥) → endsFrom s (p + 1) ≡ endsFrom s p

@@ -1,10 +1,10 @@
-use Prim.Native.Nat.{_-_}
+use Prim.Native.Nat.{_+_, _-_}
 use mathlib.Core.Path.{_≡_, refl, sym, _∙_}
 use native.Mathlib.Omega.{arith}
 use borrow.Author.Needs.{needs}
 use lib.ListN.{length}
-use Rattle.readers.proofs.Ends.{comment-bare, comment-close, comment-more, comment-none, endsFrom, slash-step, star-step}
-use Rattle.text.proofs.Decode.{step-none, step-one}
+use Rattle.readers.proofs.Ends.{comment-bare, comment-close, comment-more, comment-none, endsFrom}
+use Rattle.text.proofs.Decode.{byte-step, step-none, step-one}
 use Rattle.readers.proofs.comments.comment_end.Statement.{statement}
 use Rattle.readers.proofs.comments.comment_end.Tie as tie
 
@@ -21,16 +21,16 @@ byte-at-requires : tie.Need-byte-at-requires Inv-loop μ-loop
 byte-at-requires c κs = search needs
 
 add-p : tie.Need-add-p Inv-loop μ-loop
-add-p c = omega (arith, (star-step (c .before .before .before .before .args .s .now) (c .before .before .loop .p) (sym (c .before .byte-at .ensures) ∙ c .if1 .taken)) .room)
+add-p c = let e = (sym (c .before .byte-at .ensures) ∙ c .if1 .taken) in let t = byte-step (c .before .before .before .before .args .s .now) (c .before .before .loop .p) (omega arith) (omega arith) in omega arith
 
 byte-at-requires-2 : tie.Need-byte-at-requires-2 Inv-loop μ-loop
 byte-at-requires-2 c κs = search needs
 
 add-t10 : tie.Need-add-t10 Inv-loop μ-loop
-add-t10 c = omega (arith, (slash-step (c .before .before .before .before .before .before .args .s .now) (c .before .before .before .before .loop .p) (sym (c .before .before .before .byte-at .ensures) ∙ c .before .before .if1 .taken) (sym (c .before .byte-at2 .ensures) ∙ c .if2 .taken)) .room)
+add-t10 c = let e = (sym (c .before .byte-at2 .ensures) ∙ c .if2 .taken) in let t = byte-step (c .before .before .before .before .before .before .args .s .now) ((c .before .before .before .before .loop .p) + 1) (omega arith) (omega arith) in omega arith
 
 loop-less : tie.Need-loop-less Inv-loop μ-loop
-loop-less c = let t = star-step (c .before .before .before .before .before .before .args .s .now) (c .before .before .before .before .loop .p) (sym (c .before .before .before .byte-at .ensures) ∙ c .before .before .if1 .taken) in omega arith
+loop-less c = let e = (sym (c .before .before .before .byte-at .ensures) ∙ c .before .before .if1 .taken) in let t = byte-step (c .before .before .before .before .before .before .args .s .now) (c .before .before .before .before .loop .p) (omega arith) (omega arith) in omega arith
 
 loop-again : tie.Need-loop-again Inv-loop μ-loop
 loop-again c = comment-bare (c .before .before .before .before .before .before .args .s .now) (c .before .before .before .before .loop .p) (sym (c .before .before .before .byte-at .ensures) ∙ c .before .before .if1 .taken) (λ e. c .if2 .left (c .before .byte-at2 .ensures ∙ e)) ∙ (c .before .before .before .before .loop .inv)
