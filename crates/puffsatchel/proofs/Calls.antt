@@ -25,3 +25,6 @@ module _ (n : ℕ) (s : List ℕ) (r q : ℕ) (v w : List ℕ) where
 
     pub outline-determined : Left-by (outlineTells n s l) (outlineLeaves n s l) r o v → Left-by (outlineTells n s l) (outlineLeaves n s l) q p w → (r ≡ q) × (o ≡ p) × (v ≡ w)
     outline-determined = left-determined (outlineTells n s l) (outlineLeaves n s l) r q o p v w
+
+    pub findings-determined : Left-by (findingsTells n s l) (findingsLeaves n s l) r o v → Left-by (findingsTells n s l) (findingsLeaves n s l) q p w → (r ≡ q) × (o ≡ p) × (v ≡ w)
+    findings-determined = left-determined (findingsTells n s l) (findingsLeaves n s l) r q o p v w
