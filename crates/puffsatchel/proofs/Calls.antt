@@ -4,7 +4,7 @@ use mathlib.Core.Path.{_≡_}
 use mathlib.Core.List.{List}
 use Rattle.answers.proofs.Promises.{Left-by, Told-by, left-determined, told-determined}
 use Rattle.laws.proofs.Determined.{determined}
-use Rattle.puffsatchel.specs.Calls.{listLeaves, listTells, nextTells, outlineLeaves, outlineTells, readTells, testTells, version}
+use Rattle.puffsatchel.specs.Calls.{findingsLeaves, findingsTells, listLeaves, listTells, nextTells, outlineLeaves, outlineTells, readTells, testTells, version}
 
 pub version-determined : (r q : ℕ) → r ≡ version → q ≡ version → r ≡ q
 version-determined r q h k = determined r q h k

@@ -6,6 +6,7 @@ use lib.ListN.{length}
 use Rattle.answers.specs.Readings.{readingOf, tellsBy, writesBy}
 use Rattle.answers.specs.Told.{ofListed, ofOutlined, ofRead, ofTested}
 use Rattle.answers.specs.declared.Told.{Told}
+use Rattle.findings.specs.Findings.{findingsOf, recordsOf}
 use Rattle.lexer.specs.Next.{nextAt, readAt}
 use Rattle.listing.specs.Listing.{listOf, storedOf}
 use Rattle.outline.specs.Outline.{outlineOf, writtenOf}

@@ -3,7 +3,7 @@
 use answers::tell;
 use readers::Chosen;
 ghost use mathlib.Core.Path.{_≡_};
-ghost use Rattle.puffsatchel.specs.Calls.{listLeaves, listTells, nextTells, outlineLeaves, outlineTells, readTells, testTells, version};
+ghost use Rattle.puffsatchel.specs.Calls.{findingsLeaves, findingsTells, listLeaves, listTells, nextTells, outlineLeaves, outlineTells, readTells, testTells, version};
 
 // A number that names no reading.
 const NO_SUCH_READING: u32 = 6;
