@@ -1,8 +1,8 @@
-// What refusals 1 to 19 and findings are called, mean and ask for. Written by tools/texts.py from texts.txt: change that table.
-// 160 and 161 are the findings 60 and 61 of a template. Every function here is safe and ends; what is put no contract says.
+// What the refusals of a source and the findings are called, mean and ask for; 160 and 161 are the findings 60 and 61 of a template.
+// Written by tools/texts.py from texts.txt: change that table. Every function is safe and ends; what it puts no contract says.
 use buffer::put_bytes;
 
-pub fn put_name(out: &mut [u8], waiting: usize, number: u32) -> usize {
+fn source_name(out: &mut [u8], waiting: usize, number: u32) -> usize {
     match number {
         1 => put_bytes(out, waiting, b"too-long"),
         2 => put_bytes(out, waiting, b"ill-formed"),
@@ -10,6 +10,12 @@ pub fn put_name(out: &mut [u8], waiting: usize, number: u32) -> usize {
         4 => put_bytes(out, waiting, b"no-place"),
         5 => put_bytes(out, waiting, b"no-such-form"),
         6 => put_bytes(out, waiting, b"no-such-reading"),
+        _ => put_bytes(out, waiting, b"unknown"),
+    }
+}
+
+fn token_name(out: &mut [u8], waiting: usize, number: u32) -> usize {
+    match number {
         10 => put_bytes(out, waiting, b"expected-escape"),
         11 => put_bytes(out, waiting, b"unterminated-char-lit"),
         12 => put_bytes(out, waiting, b"expected-char-close"),
@@ -20,6 +26,12 @@ pub fn put_name(out: &mut [u8], waiting: usize, number: u32) -> usize {
         17 => put_bytes(out, waiting, b"unterminated-byte-str-lit"),
         18 => put_bytes(out, waiting, b"unexpected-char"),
         19 => put_bytes(out, waiting, b"too-deep"),
+        _ => put_bytes(out, waiting, b"unknown"),
+    }
+}
+
+fn finding_name(out: &mut [u8], waiting: usize, number: u32) -> usize {
+    match number {
         60 | 61 => put_bytes(out, waiting, b"comment-runs-on"),
         160 | 161 => put_bytes(out, waiting, b"template-runs-on"),
         62 => put_bytes(out, waiting, b"read-as-code"),
@@ -30,7 +42,15 @@ pub fn put_name(out: &mut [u8], waiting: usize, number: u32) -> usize {
     }
 }
 
-pub fn put_what(out: &mut [u8], waiting: usize, number: u32) -> usize {
+pub fn put_name(out: &mut [u8], waiting: usize, number: u32) -> usize {
+    match number {
+        0..=9 => source_name(out, waiting, number),
+        10..=19 => token_name(out, waiting, number),
+        _ => finding_name(out, waiting, number),
+    }
+}
+
+fn source_what(out: &mut [u8], waiting: usize, number: u32) -> usize {
     match number {
         1 => put_bytes(out, waiting, b"the source is over 65,536 bytes"),
         2 => put_bytes(out, waiting, b"the source is not UTF-8 from here on"),
@@ -42,6 +62,12 @@ pub fn put_what(out: &mut [u8], waiting: usize, number: u32) -> usize {
         ),
         5 => put_bytes(out, waiting, b"the number names no form of a body"),
         6 => put_bytes(out, waiting, b"the number names no reading"),
+        _ => put_bytes(out, waiting, b"unknown"),
+    }
+}
+
+fn token_what(out: &mut [u8], waiting: usize, number: u32) -> usize {
+    match number {
         10 => put_bytes(out, waiting, b"the source ends after a backslash"),
         11 => put_bytes(out, waiting, b"a control character stands in a char"),
         12 => put_bytes(out, waiting, b"a char is empty"),
@@ -52,6 +78,12 @@ pub fn put_what(out: &mut [u8], waiting: usize, number: u32) -> usize {
         17 => put_bytes(out, waiting, b"the source ends in a byte string"),
         18 => put_bytes(out, waiting, b"no token begins with this character"),
         19 => put_bytes(out, waiting, b"a 65th template is opened within templates"),
+        _ => put_bytes(out, waiting, b"unknown"),
+    }
+}
+
+fn finding_what(out: &mut [u8], waiting: usize, number: u32) -> usize {
+    match number {
         60 | 61 => put_bytes(out, waiting, b"this comment does not end where it seems to"),
         160 | 161 => put_bytes(
             out,
@@ -74,7 +106,15 @@ pub fn put_what(out: &mut [u8], waiting: usize, number: u32) -> usize {
     }
 }
 
-pub fn put_cure(out: &mut [u8], waiting: usize, number: u32) -> usize {
+pub fn put_what(out: &mut [u8], waiting: usize, number: u32) -> usize {
+    match number {
+        0..=9 => source_what(out, waiting, number),
+        10..=19 => token_what(out, waiting, number),
+        _ => finding_what(out, waiting, number),
+    }
+}
+
+fn source_cure(out: &mut [u8], waiting: usize, number: u32) -> usize {
     match number {
         1 => put_bytes(out, waiting, b"split it"),
         2 => put_bytes(out, waiting, b"save it as UTF-8"),
@@ -82,6 +122,12 @@ pub fn put_cure(out: &mut [u8], waiting: usize, number: u32) -> usize {
         4 => put_bytes(out, waiting, b"begin where a token ended"),
         5 => put_bytes(out, waiting, b"give 1 to 5"),
         6 => put_bytes(out, waiting, b"give 1 or 2"),
+        _ => put_bytes(out, waiting, b"unknown"),
+    }
+}
+
+fn token_cure(out: &mut [u8], waiting: usize, number: u32) -> usize {
+    match number {
         10 => put_bytes(out, waiting, b"finish the escape and close the literal"),
         11 => put_bytes(
             out,
@@ -103,6 +149,12 @@ pub fn put_cure(out: &mut [u8], waiting: usize, number: u32) -> usize {
             b"take it out, or put it in a string or a comment",
         ),
         19 => put_bytes(out, waiting, b"take one out into a variable"),
+        _ => put_bytes(out, waiting, b"unknown"),
+    }
+}
+
+fn finding_cure(out: &mut [u8], waiting: usize, number: u32) -> usize {
+    match number {
         60 | 61 => put_bytes(out, waiting, b"write `/*  */` with two blanks, or use `//`"),
         160 | 161 => put_bytes(
             out,
@@ -118,5 +170,13 @@ pub fn put_cure(out: &mut [u8], waiting: usize, number: u32) -> usize {
             b"save the file as UTF-8 without a byte order mark",
         ),
         _ => put_bytes(out, waiting, b"unknown"),
+    }
+}
+
+pub fn put_cure(out: &mut [u8], waiting: usize, number: u32) -> usize {
+    match number {
+        0..=9 => source_cure(out, waiting, number),
+        10..=19 => token_cure(out, waiting, number),
+        _ => finding_cure(out, waiting, number),
     }
 }
