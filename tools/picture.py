@@ -6,6 +6,7 @@ usage: tools/picture.py            writes docs/crates.dot and docs/crates.svg (n
 """
 import glob
 import os
+import shutil
 import subprocess
 import sys
 
@@ -77,6 +78,8 @@ def main(words):
     elif words:
         sys.exit(__doc__)
     else:
+        if not shutil.which('dot'):
+            sys.exit("tools/picture.py: no dot on the path: install Debian's graphviz")
         with open(os.path.join(ROOT, DOT), 'w', encoding='utf-8') as f:
             f.write(text)
         subprocess.run(['dot', '-Tsvg', '-o', os.path.join(ROOT, SVG), os.path.join(ROOT, DOT)], check=True)
