@@ -3,6 +3,8 @@
 
 usage: tools/picture.py            writes docs/crates.dot and docs/crates.svg (needs Debian's graphviz)
        tools/picture.py --check    exits 1 where docs/crates.dot is not what crates.txt gives (needs python3 alone)
+
+A crate that has no line in docs/ARCHITECTURE.md is told in both cases, with exit status 1.
 """
 import glob
 import os
@@ -70,8 +72,16 @@ def dot_text():
     return '\n'.join(out + ['}', ''])
 
 
+def without_a_line():
+    told = read('docs/ARCHITECTURE.md')
+    return [name for name in crates() if f'`{name}`' not in told]
+
+
 def main(words):
     text = dot_text()
+    unsaid = without_a_line()
+    if unsaid:
+        sys.exit(f'tools/picture.py: docs/ARCHITECTURE.md does not say what these crates are: {" ".join(unsaid)}: write a line for each')
     if words == ['--check']:
         if not os.path.exists(os.path.join(ROOT, DOT)) or read(DOT) != text:
             sys.exit(f'tools/picture.py: {DOT} is not what crates.txt gives: run tools/picture.py, which draws {SVG} too')
