@@ -5,7 +5,7 @@
 use core::fmt::{self, Write};
 
 use puffsatchel::{list, load, outline, read, store, test, unescape};
-use puffsatchel::{Form, Kind, Lexer, Lookahead, Reading, Reason, Refusal, Stopped, Token, Tokens, Whitespace};
+use puffsatchel::{Code, Form, Kind, Lexer, Lookahead, Reading, Reason, Refusal, Stopped, Token, Tokens, Whitespace};
 
 #[no_mangle]
 pub fn readings() -> [Reading; 2] {
@@ -86,5 +86,13 @@ pub fn numbered(kind: Kind, reason: Reason) -> (u32, u32, bool) {
 
 #[no_mangle]
 pub fn said(stopped: &Stopped, kind: Kind, out: &mut dyn Write) -> fmt::Result {
-    write!(out, "{stopped} {stopped:?} {kind:?}")
+    write!(out, "{stopped} {stopped:?} {kind} {kind:?}")
+}
+
+#[no_mangle]
+pub fn code_said(number: u32, first: u8, out: &mut dyn Write) -> fmt::Result {
+    match Code::from_number(number, first) {
+        Some(code) => write!(out, "{} {code} {code:?} {} {}", code.number(), code.name(), code.cure()),
+        None => Ok(()),
+    }
 }

@@ -27,6 +27,7 @@
 
 #[allow(unsafe_code)]
 mod calls;
+mod code;
 mod kind;
 mod lent;
 mod lexer;
@@ -36,6 +37,7 @@ mod reading;
 mod refusal;
 mod texts;
 
+pub use self::code::Code;
 pub use self::kind::{Delimiter, Kind};
 pub use self::lexer::{read, test, Lexer, Span, Token};
 pub use self::lists::{list, load, store, Stopped, Tokens};
