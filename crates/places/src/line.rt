@@ -1,7 +1,11 @@
 // Lines and columns, counted from a place on: a source with many findings is walked once.
 use text::Scalar;
-ghost use Prim.Native.Nat.{_<_};
-ghost use lib.ListN.{length};
+ghost use Prim.Native.Nat.{_+_, _-_, _<_};
+ghost use mathlib.Core.Path.{_≡_};
+ghost use lib.ListN.{getD, length};
+ghost use Rattle.laws.specs.Bools.{pick};
+ghost use Rattle.places.specs.Lines.{Stands, begins, columnOf, countIn, isFeed, partOf, startOf};
+ghost use Rattle.text.specs.Utf8.{from};
 
 // Line and column count from 1.
 pub struct Place {
@@ -10,7 +14,10 @@ pub struct Place {
     pub column: usize,
 }
 
-pub fn origin() -> Place {
+// It stands in every source (`origin-stands`).
+pub fn origin() -> Place
+    ensures { λ r. ⌜ (r .at ≡ 0) × (r .line ≡ 1) × (r .column ≡ 1) ⌝ }
+{
     Place {
         at: 0,
         line: 1,
@@ -18,7 +25,10 @@ pub fn origin() -> Place {
     }
 }
 
-fn sum(a: usize, b: usize) -> usize {
+// No number of a source is as large: past that the first is left as it is.
+fn sum(a: usize, b: usize) -> usize
+    ensures { λ r. ⌜ (a < 0x80000000 → b < 0x80000000 → r ≡ a + b) ⌝ }
+{
     if a < 0x8000_0000 {
         if b < 0x8000_0000 {
             return a + b;
@@ -27,56 +37,73 @@ fn sum(a: usize, b: usize) -> usize {
     a
 }
 
-fn less(a: usize, b: usize) -> usize {
+fn less(a: usize, b: usize) -> usize
+    ensures { λ r. ⌜ r ≡ a - b ⌝ }
+{
     if b < a { a - b } else { 0 }
 }
 
 // From one place to before another; nothing where that is no part of the slice.
-pub fn part(s: &[u8], from: usize, to: usize) -> &[u8] {
-    if to <= s.len() {
-        if from <= to {
-            return &s[from..to];
-        }
+pub fn part(s: &[u8], from: usize, to: usize) -> &[u8]
+    ensures { λ r. ⌜ now r ≡ partOf (now (s .entry)) from to ⌝ }
+{
+    if s.len() < to {
+        return &s[..0];
     }
-    &s[..0]
+    if to < from {
+        return &s[..0];
+    }
+    &s[from..to]
+}
+
+fn feed_at(s: &[u8], at: usize) -> usize
+    ensures { λ r. ⌜ r ≡ pick (isFeed (getD (now (s .entry)) at 0)) 1 0 ⌝ }
+{
+    if text::byte_at(s, at) == b'\n' {
+        return 1;
+    }
+    0
+}
+
+fn scalar_at(s: &[u8], at: usize) -> usize
+    ensures { λ r. ⌜ r ≡ pick (begins (getD (now (s .entry)) at 0)) 1 0 ⌝ }
+{
+    if text::is_tail(text::byte_at(s, at)) {
+        return 0;
+    }
+    1
 }
 
 // How many LF stand from one place to before another.
-fn count_feeds(bytes: &[u8]) -> usize {
+pub fn feeds(s: &[u8], from: usize, to: usize) -> usize
+    ensures { λ r. ⌜ r ≡ countIn isFeed (now (s .entry)) from to ⌝ }
+{
     let mut count: usize = 0;
-    let mut i: usize = 0;
-    while i < bytes.len() {
-        if bytes[i] == b'\n' {
-            count = count + 1;
-        }
+    let mut i = from;
+    while i < to {
+        count = count + feed_at(s, i);
         i = i + 1;
     }
     count
 }
 
-pub fn feeds(s: &[u8], from: usize, to: usize) -> usize {
-    count_feeds(part(s, from, to))
-}
-
-// How many scalars begin there: every byte but a tail byte begins one.
-fn count_scalars(bytes: &[u8]) -> usize {
+// How many scalars begin there.
+pub fn scalars(s: &[u8], from: usize, to: usize) -> usize
+    ensures { λ r. ⌜ r ≡ countIn begins (now (s .entry)) from to ⌝ }
+{
     let mut count: usize = 0;
-    let mut i: usize = 0;
-    while i < bytes.len() {
-        if !text::is_tail(bytes[i]) {
-            count = count + 1;
-        }
+    let mut i = from;
+    while i < to {
+        count = count + scalar_at(s, i);
         i = i + 1;
     }
     count
-}
-
-pub fn scalars(s: &[u8], from: usize, to: usize) -> usize {
-    count_scalars(part(s, from, to))
 }
 
 // The place after the last LF before a place.
-pub fn line_start(s: &[u8], at: usize) -> usize {
+pub fn line_start(s: &[u8], at: usize) -> usize
+    ensures { λ r. ⌜ r ≡ startOf (now (s .entry)) at ⌝ }
+{
     let mut i = at;
     while 0 < i {
         if text::byte_at(s, i - 1) == b'\n' {
@@ -103,12 +130,16 @@ pub fn after(s: &[u8], at: usize) -> usize
     at + 1
 }
 
-fn column(s: &[u8], at: usize) -> usize {
+fn column(s: &[u8], at: usize) -> usize
+    ensures { λ r. ⌜ (at < 0x40000000 → r ≡ columnOf (now (s .entry)) at) ⌝ }
+{
     sum(1, scalars(s, line_start(s, at), at))
 }
 
-// Another place of the source, counted from one that is known.
-pub fn moved(s: &[u8], p: Place, to: usize) -> Place {
+// Another place of the source, counted from one that stands with its line and column.
+pub fn moved(s: &[u8], p: Place, to: usize) -> Place
+    ensures { λ r. ⌜ (r .at ≡ to) × (p .at < 0x40000000 → to < 0x40000000 → Stands (now (s .entry)) p → Stands (now (s .entry)) r) ⌝ }
+{
     if to < p.at {
         return Place {
             at: to,

@@ -1,10 +1,14 @@
--- The place falls. Assumes nothing.
+-- Every place back to the last LF has the same line. Assumes nothing.
+use mathlib.Core.Path.{_≡_, sym, _∙_}
+use native.Mathlib.Omega.{arith}
 use borrow.Author.Needs.{needs}
+use Rattle.places.proofs.Counts.{start-back, start-here, start-none}
+use Rattle.places.specs.Lines.{startOf}
 use Rattle.places.proofs.line.line_start.Statement.{statement}
 use Rattle.places.proofs.line.line_start.Tie as tie
 
 abbrev Inv-loop : tie.InvT-loop
-Inv-loop s at i₀ i = Unit
+Inv-loop s at i₀ i = startOf s i ≡ startOf s at
 
 abbrev μ-loop : tie.MeasureT-loop
 μ-loop s at i₀ i = i
@@ -19,7 +23,7 @@ byte-at-requires : tie.Need-byte-at-requires Inv-loop μ-loop
 byte-at-requires c κs = search needs
 
 returns : tie.Need-returns Inv-loop μ-loop
-returns c = search needs
+returns c = sym (start-here (c .before .before .before .before .before .args .s .now) (c .before .before .before .loop .i) (omega arith) (sym (c .before .byte-at .ensures) ∙ c .if1 .taken)) ∙ c .before .before .before .loop .inv
 
 sub-i : tie.Need-sub-i Inv-loop μ-loop
 sub-i c = search needs
@@ -28,10 +32,10 @@ loop-less : tie.Need-loop-less Inv-loop μ-loop
 loop-less c = search needs
 
 loop-again : tie.Need-loop-again Inv-loop μ-loop
-loop-again c = search needs
+loop-again c = start-back (c .before .before .before .before .before .args .s .now) (c .before .before .before .loop .i) (omega arith) (λ e. c .if1 .left ((c .before .byte-at .ensures) ∙ e)) ∙ c .before .before .before .loop .inv
 
 returns-2 : tie.Need-returns-2 Inv-loop μ-loop
-returns-2 c = search needs
+returns-2 c = sym (start-none (c .before .before .before .args .s .now) (c .before .loop .i) (omega arith)) ∙ c .before .loop .inv
 
 pub line-start-spec : {M : Type 1} → statement M
 line-start-spec =

@@ -5,7 +5,7 @@ use Rattle.places.proofs.window.ahead.Statement.{statement}
 use Rattle.places.proofs.window.ahead.Tie as tie
 
 abbrev Inv-loop : tie.InvT-loop
-Inv-loop s at most to₀ count₀ to count = Unit
+Inv-loop s at most to₀ count₀ to count = Unit {0}
 
 abbrev μ-loop : tie.MeasureT-loop
 μ-loop s at most to₀ count₀ to count = most - count

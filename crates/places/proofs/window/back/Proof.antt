@@ -4,7 +4,7 @@ use Rattle.places.proofs.window.back.Statement.{statement}
 use Rattle.places.proofs.window.back.Tie as tie
 
 abbrev Inv-loop : tie.InvT-loop
-Inv-loop s at most i₀ left₀ i left = Unit
+Inv-loop s at most i₀ left₀ i left = Unit {0}
 
 abbrev μ-loop : tie.MeasureT-loop
 μ-loop s at most i₀ left₀ i left = i
