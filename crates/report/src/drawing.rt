@@ -111,7 +111,7 @@ fn put_carets(out: &mut [u8], waiting: usize, bytes: &[u8]) -> usize {
 }
 
 // Some bytes, or nothing.
-pub(crate) fn put_if(out: &mut [u8], waiting: usize, asked: bool, bytes: &[u8]) -> usize {
+pub fn put_if(out: &mut [u8], waiting: usize, asked: bool, bytes: &[u8]) -> usize {
     if asked {
         return put_bytes(out, waiting, bytes);
     }

@@ -6,6 +6,7 @@ use crate::drawing::put_shown;
 use buffer::put;
 use places::ahead;
 use places::part;
+use readers::Comments;
 use readers::Reading;
 use token::Kind;
 use token::Read;
@@ -24,6 +25,13 @@ pub(crate) struct Named {
 struct Last {
     to: usize,
     more: bool,
+}
+
+// The reading in which a comment ends where it seems to.
+pub(crate) fn first_close() -> Reading {
+    Reading {
+        comments: Comments::First,
+    }
 }
 
 fn is_blank(kind: Kind) -> bool {
