@@ -46,42 +46,32 @@ pub(crate) fn default_settings() -> Settings {
     }
 }
 
-fn with_form(settings: Settings, form: Form) -> Step {
-    let reading = settings.reading;
+fn set(reading: Reading, form: Form, colour: bool, expects: bool) -> Step {
     Step::Set {
         settings: Settings {
             reading,
             form,
-            colour: settings.colour,
-            expects: false,
+            colour,
+            expects,
         },
     }
+}
+
+fn with_form(settings: Settings, form: Form) -> Step {
+    let reading = settings.reading;
+    set(reading, form, settings.colour, false)
 }
 
 fn with_colour(settings: Settings) -> Step {
     let reading = settings.reading;
     let form = settings.form;
-    Step::Set {
-        settings: Settings {
-            reading,
-            form,
-            colour: true,
-            expects: false,
-        },
-    }
+    set(reading, form, true, false)
 }
 
 fn expecting(settings: Settings) -> Step {
     let reading = settings.reading;
     let form = settings.form;
-    Step::Set {
-        settings: Settings {
-            reading,
-            form,
-            colour: settings.colour,
-            expects: true,
-        },
-    }
+    set(reading, form, settings.colour, true)
 }
 
 fn with_comments(settings: Settings, word: &[u8]) -> Step {
@@ -89,14 +79,7 @@ fn with_comments(settings: Settings, word: &[u8]) -> Step {
         return Step::Wrong;
     };
     let form = settings.form;
-    Step::Set {
-        settings: Settings {
-            reading,
-            form,
-            colour: settings.colour,
-            expects: false,
-        },
-    }
+    set(reading, form, settings.colour, false)
 }
 
 // A lone `-` is standard input.

@@ -5,7 +5,6 @@ mod files;
 mod records;
 mod tally;
 
-use asked::Settings;
 use tally::Tally;
 
 fn status_of(tally: Tally, written: bool) -> u8 {

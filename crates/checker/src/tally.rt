@@ -12,13 +12,17 @@ pub(crate) struct Tally {
     pub unread: usize,
 }
 
-pub(crate) fn nothing() -> Tally {
+fn tally_of(errors: usize, warnings: usize, notes: usize, unread: usize) -> Tally {
     Tally {
-        errors: 0,
-        warnings: 0,
-        notes: 0,
-        unread: 0,
+        errors,
+        warnings,
+        notes,
+        unread,
     }
+}
+
+pub(crate) fn nothing() -> Tally {
+    tally_of(0, 0, 0, 0)
 }
 
 fn sum(a: usize, b: usize) -> usize {
@@ -26,34 +30,19 @@ fn sum(a: usize, b: usize) -> usize {
 }
 
 pub(crate) fn both(a: Tally, b: Tally) -> Tally {
-    Tally {
-        errors: sum(a.errors, b.errors),
-        warnings: sum(a.warnings, b.warnings),
-        notes: sum(a.notes, b.notes),
-        unread: sum(a.unread, b.unread),
-    }
+    tally_of(
+        sum(a.errors, b.errors),
+        sum(a.warnings, b.warnings),
+        sum(a.notes, b.notes),
+        sum(a.unread, b.unread),
+    )
 }
 
 fn one(severity: Severity) -> Tally {
     match severity {
-        Severity::Error => Tally {
-            errors: 1,
-            warnings: 0,
-            notes: 0,
-            unread: 0,
-        },
-        Severity::Warning => Tally {
-            errors: 0,
-            warnings: 1,
-            notes: 0,
-            unread: 0,
-        },
-        Severity::Note => Tally {
-            errors: 0,
-            warnings: 0,
-            notes: 1,
-            unread: 0,
-        },
+        Severity::Error => tally_of(1, 0, 0, 0),
+        Severity::Warning => tally_of(0, 1, 0, 0),
+        Severity::Note => tally_of(0, 0, 1, 0),
     }
 }
 
@@ -62,15 +51,7 @@ pub(crate) fn with(tally: Tally, number: u32) -> Tally {
 }
 
 pub(crate) fn with_unread(tally: Tally) -> Tally {
-    both(
-        tally,
-        Tally {
-            errors: 0,
-            warnings: 0,
-            notes: 0,
-            unread: 1,
-        },
-    )
+    both(tally, tally_of(0, 0, 0, 1))
 }
 
 pub(crate) fn is_clean(tally: Tally) -> bool {
