@@ -1,6 +1,8 @@
-/* Puffsatchel: reads the text of site rules (Rune scripts) into tokens. Proved: every call answers on every input, and as this page says.
+/* SPDX-License-Identifier: Apache-2.0
  *
- * Link with libpuffsatchel.a (bin/build-library; x86-64). No call keeps or allocates memory, calls another library or has state of its own;
+ * Puffsatchel: reads the text of site rules (Rune scripts) into tokens. Proved: every call answers on every input, and as this page says.
+ *
+ * Link with libpuffsatchel.a (bin/build-library). No call keeps or allocates memory, calls another library or has state of its own;
  * calls on different memory may run at the same time.
  *
  * One convention for all: the result is the number of a refusal, 0 where nothing was refused. The rest of the answer goes to the record
@@ -11,6 +13,10 @@
  */
 #ifndef PUFFSATCHEL_H
 #define PUFFSATCHEL_H
+
+#if !defined(__x86_64__) || !defined(__ELF__) || defined(__ILP32__)
+#error "libpuffsatchel.a is always built for x86-64 Linux, so compile for that too: with Debian's x86_64-linux-gnu-gcc, for example."
+#endif
 
 #include <stddef.h>
 #include <stdint.h>
