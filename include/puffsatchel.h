@@ -26,13 +26,15 @@ extern "C" {
 #endif
 
 /* The version of this page; puffsatchel_version() is that of the archive. */
-#define PUFFSATCHEL_VERSION 4
+#define PUFFSATCHEL_VERSION 5
 
 /* Sizes, for memory that is always enough. */
 enum {
     PUFFSATCHEL_LARGEST_SOURCE = 65536,                                 /* bytes */
     PUFFSATCHEL_WORDS_PER_TOKEN = 3,                                    /* kind, start, end */
     PUFFSATCHEL_LARGEST_LIST = 3 * PUFFSATCHEL_LARGEST_SOURCE,          /* words: a token is a byte or more */
+    PUFFSATCHEL_FINDING_WORDS = 5,                                      /* code, start, end, from, to */
+    PUFFSATCHEL_LARGEST_FINDINGS = 5 * PUFFSATCHEL_LARGEST_SOURCE,      /* words: no more findings than bytes */
     PUFFSATCHEL_BYTES_PER_RECORD = 11,                                  /* of a stored list */
     PUFFSATCHEL_LARGEST_STORED = 11 * PUFFSATCHEL_LARGEST_SOURCE,       /* bytes */
     PUFFSATCHEL_DEEPEST_TEMPLATE = 64,
@@ -170,6 +172,16 @@ enum {
     PUFFSATCHEL_GAP = 43         /* a start other than the end before it, or an end that is not past its start */
 };
 
+/* What puffsatchel_findings finds. */
+enum {
+    PUFFSATCHEL_RUNS_ON = 60,           /* a comment or a template that does not end where it seems to */
+    PUFFSATCHEL_RUNS_ON_BLANK = 61,     /* the same, over white space and comments alone */
+    PUFFSATCHEL_READ_AS_CODE = 62,      /* a token in force that seems to be inside a comment */
+    PUFFSATCHEL_COMMENT_UNCLOSED = 63,  /* to the end of the source */
+    PUFFSATCHEL_TEMPLATE_UNCLOSED = 64, /* no backtick closes it */
+    PUFFSATCHEL_BYTE_ORDER_MARK = 65    /* EF BB BF at the start of the source; rune refuses it with 18 */
+};
+
 /* How a source is read, which the caller names in every call that reads one: one number of or-ed names, one name for each part. In this version
  * the part is comments alone; later parts take other bits (0x10, 0x20 ..). A number that names no reading, 0 too, is refused with 6 before all
  * else, and nothing is written but the answer.
@@ -212,6 +224,20 @@ uint32_t puffsatchel_list(const uint8_t *source, size_t source_len, uint32_t rea
 /* Writes the source with x over every byte inside strings, byte strings, comments and templates; from a refused token on it is copied, and
  * the refusal (10 to 19) is the result. 6, 1, 2, and 3 for an out shorter than the source, write nothing. Later bytes are unchanged. */
 uint32_t puffsatchel_outline(const uint8_t *source, size_t source_len, uint32_t reading, uint8_t *out, size_t out_len, puffsatchel_answer *answer);
+
+/* Finds what the writer of a source would want to know, and stores five words each, from the store's first word on: the code (60 to 65), start and
+ * end of a token, and a stretch of the source, from one place to before another. They come in the order of places; count is of stored findings.
+ *
+ * The tokens are those of the reading named. Where that is the crate's, they are compared with those to the first close, which are what a person
+ * sees; with nothing found both lists are the same. What the stretch is:
+ *     60, 61    between the two ends. As a rule `to` is the token's end, and the stretch is comment though it does not look it. Where `from`
+ *               is the token's end (a template may end sooner), the stretch is in force though it looks like text of the template.
+ *     62        the comment that the token seems to be inside; each such token is a finding.
+ *     63 to 65  a point at the token's end. Before 63 the same comment may have a 60 or a 61.
+ *
+ * Stops at the first refusal (6, 1, 2, then 10 to 19 where reading stops, and 3 for the finding that found no five words: its span is the
+ * refusal's). The findings before it stay stored, all later words are unchanged. Five words for each byte of the source are always enough. */
+uint32_t puffsatchel_findings(const uint8_t *source, size_t source_len, uint32_t reading, uint32_t *store, size_t store_len, puffsatchel_answer *answer);
 
 /* Writes what a body stands for, its escapes read by one of the five forms; count is of written bytes, never more than the body has.
  * Refuses with 5, 1, 2, the earliest of 20 to 25, 27, 26, and then writes nothing. Later bytes are unchanged. */

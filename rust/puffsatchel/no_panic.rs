@@ -4,8 +4,8 @@
 
 use core::fmt::{self, Write};
 
-use puffsatchel::{list, load, outline, read, store, test, unescape};
-use puffsatchel::{Form, Kind, Lexer, Lookahead, Reading, Reason, Refusal, Stopped, Token, Tokens, Whitespace};
+use puffsatchel::{findings, list, load, outline, read, store, test, unescape};
+use puffsatchel::{Code, Finding, Findings, Form, Kind, Lexer, Lookahead, Reading, Reason, Refusal, Stopped, Token, Tokens, Whitespace};
 
 #[no_mangle]
 pub fn readings() -> [Reading; 2] {
@@ -41,6 +41,21 @@ pub fn tokens_new(words: &[u32]) -> Tokens<'_> {
 #[no_mangle]
 pub fn tokens_next(tokens: &mut Tokens<'_>) -> Option<Result<Token, Refusal>> {
     tokens.next()
+}
+
+#[no_mangle]
+pub fn finds<'a>(source: &[u8], reading: Reading, words: &'a mut [u32]) -> Result<Findings<'a>, Stopped> {
+    findings(source, reading, words)
+}
+
+#[no_mangle]
+pub fn findings_new(words: &[u32]) -> Findings<'_> {
+    Findings::of(words)
+}
+
+#[no_mangle]
+pub fn findings_next(found: &mut Findings<'_>) -> Option<Finding> {
+    found.next()
 }
 
 #[no_mangle]
@@ -80,8 +95,8 @@ pub fn numbers(number: u32) -> (Option<Kind>, Option<Reason>, u32) {
 }
 
 #[no_mangle]
-pub fn numbered(kind: Kind, reason: Reason) -> (u32, u32, bool) {
-    (kind.number(), reason.number(), kind.is_whitespace())
+pub fn numbered(kind: Kind, reason: Reason, code: Code) -> (u32, u32, u32, bool) {
+    (kind.number(), reason.number(), code.number(), kind.is_whitespace())
 }
 
 #[no_mangle]
