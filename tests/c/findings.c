@@ -3,8 +3,8 @@
  * sources in both readings.
  *
  * usage: findings FILE..        rule files, of which damaged copies are made */
-#include "chance.h"
 #include "lent.h"
+#include "pieces.h"
 
 enum { RANDOM = 200000, DAMAGED = 100000, PIECES = 24, WINDOW = 500, MOST = 640, FILES = 8, GUARD = 8, CODES = 6 };
 
@@ -202,15 +202,6 @@ static void compare(const uint8_t *text, size_t text_len) {
     sources++;
     compare_by(PUFFSATCHEL_COMMENTS_CRATE);
     compare_by(PUFFSATCHEL_COMMENTS_FIRST);
-}
-
-/* The marks of comments and templates come often, and what ends the reading of a source seldom. */
-static const char *piece(void) {
-    static const char *const pieces[] = {
-        "/**/", "/**/", "/**/", "/* */", "/*a*/", "/***/", "/**/a", "/*ab", "/*", "/*", "*/", "*/", "*/", "*/", "*/a", "//", "//", "/", "*",
-        "`", "`", "`", "`\\`", "`\\/**/", "`\\/*", "\\/**/`", "\\", "{", "}", "${", "\"", "b\"", "\\\"", "'", "b'", "''", "'a'",
-        "a", "a", "b", "_", "1", ";", "#!", " ", " ", "\t", "\n", "\n", "\n", "a\n", "\r\n", "\xc2\xa0", "\xc3\xa9", "\xe6\xbc\xa2", "\xf0\x9f\x8c\x8a"};
-    return pieces[chance() % (sizeof pieces / sizeof pieces[0])];
 }
 
 static uint8_t text[MOST];
