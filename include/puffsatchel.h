@@ -55,131 +55,138 @@ typedef struct puffsatchel_answer {
 
 /* The kinds of tokens. */
 enum {
-    PUFFSATCHEL_KIND_WHITESPACE = 1,          /* white space */
-    PUFFSATCHEL_KIND_COMMENT = 2,             /* to the end of the line */
-    PUFFSATCHEL_KIND_MULTILINE_COMMENT = 3,   /* closed */
-    PUFFSATCHEL_KIND_UNCLOSED_COMMENT = 4,    /* to the end of the source */
-    PUFFSATCHEL_KIND_SHEBANG = 5,
-    PUFFSATCHEL_KIND_IDENT = 6,               /* a word */
-    PUFFSATCHEL_KIND_UNDERSCORE = 7,          /* _ by itself */
-    PUFFSATCHEL_KIND_NUMBER = 8,
-    PUFFSATCHEL_KIND_CHAR = 9,
-    PUFFSATCHEL_KIND_BYTE = 10,
-    PUFFSATCHEL_KIND_STR = 11,                /* a string */
-    PUFFSATCHEL_KIND_ESCAPED_STR = 12,        /* with a backslash */
-    PUFFSATCHEL_KIND_BYTE_STR = 13,           /* a byte string */
-    PUFFSATCHEL_KIND_ESCAPED_BYTE_STR = 14,   /* with a backslash */
-    PUFFSATCHEL_KIND_LABEL = 15,
-    PUFFSATCHEL_KIND_TEMPLATE = 16,
-    PUFFSATCHEL_KIND_BANG = 17,               /* ! */
-    PUFFSATCHEL_KIND_POUND = 18,              /* # */
-    PUFFSATCHEL_KIND_DOLLAR = 19,             /* $ */
-    PUFFSATCHEL_KIND_PERC = 20,               /* % */
-    PUFFSATCHEL_KIND_AMP = 21,                /* & */
-    PUFFSATCHEL_KIND_OPEN_ROUND = 22,         /* ( */
-    PUFFSATCHEL_KIND_CLOSE_ROUND = 23,        /* ) */
-    PUFFSATCHEL_KIND_STAR = 24,               /* * */
-    PUFFSATCHEL_KIND_PLUS = 25,               /* + */
-    PUFFSATCHEL_KIND_COMMA = 26,              /* , */
-    PUFFSATCHEL_KIND_DASH = 27,               /* - */
-    PUFFSATCHEL_KIND_DOT = 28,                /* . */
-    PUFFSATCHEL_KIND_DIV = 29,                /* / */
-    PUFFSATCHEL_KIND_COLON = 30,              /* : */
-    PUFFSATCHEL_KIND_SEMI_COLON = 31,         /* ; */
-    PUFFSATCHEL_KIND_LT = 32,                 /* < */
-    PUFFSATCHEL_KIND_EQ = 33,                 /* = */
-    PUFFSATCHEL_KIND_GT = 34,                 /* > */
-    PUFFSATCHEL_KIND_QUESTION_MARK = 35,      /* ? */
-    PUFFSATCHEL_KIND_AT = 36,                 /* @ */
-    PUFFSATCHEL_KIND_OPEN_SQUARE = 37,        /* [ */
-    PUFFSATCHEL_KIND_CLOSE_SQUARE = 38,       /* ] */
-    PUFFSATCHEL_KIND_CARET = 39,              /* ^ */
-    PUFFSATCHEL_KIND_OPEN_CURLY = 40,         /* { */
-    PUFFSATCHEL_KIND_PIPE = 41,               /* | */
-    PUFFSATCHEL_KIND_CLOSE_CURLY = 42,        /* } */
-    PUFFSATCHEL_KIND_TILDE = 43,              /* ~ */
-    PUFFSATCHEL_KIND_BANG_EQ = 44,            /* != */
-    PUFFSATCHEL_KIND_PERC_EQ = 45,            /* %= */
-    PUFFSATCHEL_KIND_AMP_AMP = 46,            /* && */
-    PUFFSATCHEL_KIND_AMP_EQ = 47,             /* &= */
-    PUFFSATCHEL_KIND_STAR_EQ = 48,            /* *= */
-    PUFFSATCHEL_KIND_PLUS_EQ = 49,            /* += */
-    PUFFSATCHEL_KIND_DASH_EQ = 50,            /* -= */
-    PUFFSATCHEL_KIND_ARROW = 51,              /* -> */
-    PUFFSATCHEL_KIND_DOT_DOT = 52,            /* .. */
-    PUFFSATCHEL_KIND_SLASH_EQ = 53,           /* /= */
-    PUFFSATCHEL_KIND_COLON_COLON = 54,        /* :: */
-    PUFFSATCHEL_KIND_LT_LT = 55,              /* << */
-    PUFFSATCHEL_KIND_LT_EQ = 56,              /* <= */
-    PUFFSATCHEL_KIND_EQ_EQ = 57,              /* == */
-    PUFFSATCHEL_KIND_ROCKET = 58,             /* => */
-    PUFFSATCHEL_KIND_GT_EQ = 59,              /* >= */
-    PUFFSATCHEL_KIND_GT_GT = 60,              /* >> */
-    PUFFSATCHEL_KIND_CARET_EQ = 61,           /* ^= */
-    PUFFSATCHEL_KIND_PIPE_EQ = 62,            /* |= */
-    PUFFSATCHEL_KIND_PIPE_PIPE = 63,          /* || */
-    PUFFSATCHEL_KIND_DOT_DOT_EQ = 64,         /* ..= */
-    PUFFSATCHEL_KIND_LT_LT_EQ = 65,           /* <<= */
-    PUFFSATCHEL_KIND_GT_GT_EQ = 66,           /* >>= */
-    PUFFSATCHEL_KIND_EOF = 67                 /* the end, never in a list */
+    /* tools/texts.py writes kinds, from texts.txt */
+    PUFFSATCHEL_KIND_WHITESPACE = 1,        /* white space */
+    PUFFSATCHEL_KIND_COMMENT = 2,           /* a comment to the end of the line */
+    PUFFSATCHEL_KIND_MULTILINE_COMMENT = 3, /* a closed comment */
+    PUFFSATCHEL_KIND_UNCLOSED_COMMENT = 4,  /* a comment that nothing closes */
+    PUFFSATCHEL_KIND_SHEBANG = 5,           /* a shebang */
+    PUFFSATCHEL_KIND_IDENT = 6,             /* a word */
+    PUFFSATCHEL_KIND_UNDERSCORE = 7,        /* a lone `_` */
+    PUFFSATCHEL_KIND_NUMBER = 8,            /* a number */
+    PUFFSATCHEL_KIND_CHAR = 9,              /* a char */
+    PUFFSATCHEL_KIND_BYTE = 10,             /* a byte */
+    PUFFSATCHEL_KIND_STR = 11,              /* a string */
+    PUFFSATCHEL_KIND_ESCAPED_STR = 12,      /* a string with a backslash in it */
+    PUFFSATCHEL_KIND_BYTE_STR = 13,         /* a byte string */
+    PUFFSATCHEL_KIND_ESCAPED_BYTE_STR = 14, /* a byte string with a backslash in it */
+    PUFFSATCHEL_KIND_LABEL = 15,            /* a label */
+    PUFFSATCHEL_KIND_TEMPLATE = 16,         /* a template */
+    PUFFSATCHEL_KIND_BANG = 17,             /* `!` */
+    PUFFSATCHEL_KIND_POUND = 18,            /* `#` */
+    PUFFSATCHEL_KIND_DOLLAR = 19,           /* `$` */
+    PUFFSATCHEL_KIND_PERC = 20,             /* `%` */
+    PUFFSATCHEL_KIND_AMP = 21,              /* `&` */
+    PUFFSATCHEL_KIND_OPEN_ROUND = 22,       /* `(` */
+    PUFFSATCHEL_KIND_CLOSE_ROUND = 23,      /* `)` */
+    PUFFSATCHEL_KIND_STAR = 24,             /* `*` */
+    PUFFSATCHEL_KIND_PLUS = 25,             /* `+` */
+    PUFFSATCHEL_KIND_COMMA = 26,            /* `,` */
+    PUFFSATCHEL_KIND_DASH = 27,             /* `-` */
+    PUFFSATCHEL_KIND_DOT = 28,              /* `.` */
+    PUFFSATCHEL_KIND_DIV = 29,              /* `/` */
+    PUFFSATCHEL_KIND_COLON = 30,            /* `:` */
+    PUFFSATCHEL_KIND_SEMI_COLON = 31,       /* `;` */
+    PUFFSATCHEL_KIND_LT = 32,               /* `<` */
+    PUFFSATCHEL_KIND_EQ = 33,               /* `=` */
+    PUFFSATCHEL_KIND_GT = 34,               /* `>` */
+    PUFFSATCHEL_KIND_QUESTION_MARK = 35,    /* `?` */
+    PUFFSATCHEL_KIND_AT = 36,               /* `@` */
+    PUFFSATCHEL_KIND_OPEN_SQUARE = 37,      /* `[` */
+    PUFFSATCHEL_KIND_CLOSE_SQUARE = 38,     /* `]` */
+    PUFFSATCHEL_KIND_CARET = 39,            /* `^` */
+    PUFFSATCHEL_KIND_OPEN_CURLY = 40,       /* `{` */
+    PUFFSATCHEL_KIND_PIPE = 41,             /* `|` */
+    PUFFSATCHEL_KIND_CLOSE_CURLY = 42,      /* `}` */
+    PUFFSATCHEL_KIND_TILDE = 43,            /* `~` */
+    PUFFSATCHEL_KIND_BANG_EQ = 44,          /* `!=` */
+    PUFFSATCHEL_KIND_PERC_EQ = 45,          /* `%=` */
+    PUFFSATCHEL_KIND_AMP_AMP = 46,          /* `&&` */
+    PUFFSATCHEL_KIND_AMP_EQ = 47,           /* `&=` */
+    PUFFSATCHEL_KIND_STAR_EQ = 48,          /* `*=` */
+    PUFFSATCHEL_KIND_PLUS_EQ = 49,          /* `+=` */
+    PUFFSATCHEL_KIND_DASH_EQ = 50,          /* `-=` */
+    PUFFSATCHEL_KIND_ARROW = 51,            /* `->` */
+    PUFFSATCHEL_KIND_DOT_DOT = 52,          /* `..` */
+    PUFFSATCHEL_KIND_SLASH_EQ = 53,         /* `/=` */
+    PUFFSATCHEL_KIND_COLON_COLON = 54,      /* `::` */
+    PUFFSATCHEL_KIND_LT_LT = 55,            /* `<<` */
+    PUFFSATCHEL_KIND_LT_EQ = 56,            /* `<=` */
+    PUFFSATCHEL_KIND_EQ_EQ = 57,            /* `==` */
+    PUFFSATCHEL_KIND_ROCKET = 58,           /* `=>` */
+    PUFFSATCHEL_KIND_GT_EQ = 59,            /* `>=` */
+    PUFFSATCHEL_KIND_GT_GT = 60,            /* `>>` */
+    PUFFSATCHEL_KIND_CARET_EQ = 61,         /* `^=` */
+    PUFFSATCHEL_KIND_PIPE_EQ = 62,          /* `|=` */
+    PUFFSATCHEL_KIND_PIPE_PIPE = 63,        /* `||` */
+    PUFFSATCHEL_KIND_DOT_DOT_EQ = 64,       /* `..=` */
+    PUFFSATCHEL_KIND_LT_LT_EQ = 65,         /* `<<=` */
+    PUFFSATCHEL_KIND_GT_GT_EQ = 66,         /* `>>=` */
+    PUFFSATCHEL_KIND_EOF = 67,              /* the end of the source */
+    /* tools/texts.py ends kinds */
 };
 
-/* The numbers of refusals; 0 is none. */
+/* The numbers of refusals; 0 is none. The span is of what cannot be read: a point with 2 and 4, and with 3 the token that found no room.
+ * It is 0..0 with 1, 5, 6 and 30 to 34, and with 3 where all is written or nothing. With 40 to 43 start and end name the record, from 0 on. */
 enum {
     PUFFSATCHEL_ACCEPTED = 0,
+    /* tools/texts.py writes refusals, from texts.txt */
 
     /* A source, a place, memory. */
-    PUFFSATCHEL_TOO_LONG = 1,         /* over 65,536 bytes; span 0..0 */
-    PUFFSATCHEL_ILL_FORMED = 2,       /* no UTF-8; a point at the first bad sequence */
-    PUFFSATCHEL_NO_ROOM = 3,          /* no place for the token of the span; 0..0 for what is written whole or not at all */
-    PUFFSATCHEL_NO_PLACE = 4,         /* a place past the end or inside a scalar; a point there */
-    PUFFSATCHEL_NO_SUCH_FORM = 5,     /* a number that names no form of a body; 0..0 */
-    PUFFSATCHEL_NO_SUCH_READING = 6,  /* a number that names no reading, 0 too; 0..0 */
+    PUFFSATCHEL_TOO_LONG = 1,        /* the source is over 65,536 bytes */
+    PUFFSATCHEL_ILL_FORMED = 2,      /* the source is not UTF-8 from here on */
+    PUFFSATCHEL_NO_ROOM = 3,         /* the lent memory is full */
+    PUFFSATCHEL_NO_PLACE = 4,        /* the place is past the end or inside a character */
+    PUFFSATCHEL_NO_SUCH_FORM = 5,    /* the number names no form of a body */
+    PUFFSATCHEL_NO_SUCH_READING = 6, /* the number names no reading */
 
     /* A token. */
-    PUFFSATCHEL_EXPECTED_ESCAPE = 10,            /* the source ends behind a backslash */
-    PUFFSATCHEL_UNTERMINATED_CHAR_LIT = 11,      /* a control in a char */
-    PUFFSATCHEL_EXPECTED_CHAR_CLOSE = 12,        /* '' */
-    PUFFSATCHEL_EXPECTED_CHAR_OR_LABEL = 13,     /* ' at the end */
-    PUFFSATCHEL_EXPECTED_BYTE_CLOSE = 14,        /* the source ends in a byte */
-    PUFFSATCHEL_UNTERMINATED_BYTE_LIT = 15,      /* a control in a byte */
-    PUFFSATCHEL_UNTERMINATED_STR_LIT = 16,       /* the source ends in a string */
-    PUFFSATCHEL_UNTERMINATED_BYTE_STR_LIT = 17,  /* .. in a byte string */
-    PUFFSATCHEL_UNEXPECTED_CHAR = 18,            /* a scalar that begins no token */
-    PUFFSATCHEL_TOO_DEEP = 19,                   /* a 65th template within templates */
+    PUFFSATCHEL_EXPECTED_ESCAPE = 10,           /* the source ends after a backslash */
+    PUFFSATCHEL_UNTERMINATED_CHAR_LIT = 11,     /* a control character stands in a char */
+    PUFFSATCHEL_EXPECTED_CHAR_CLOSE = 12,       /* a char is empty */
+    PUFFSATCHEL_EXPECTED_CHAR_OR_LABEL = 13,    /* the source ends after a single quote */
+    PUFFSATCHEL_EXPECTED_BYTE_CLOSE = 14,       /* the source ends in a byte */
+    PUFFSATCHEL_UNTERMINATED_BYTE_LIT = 15,     /* a control character stands in a byte */
+    PUFFSATCHEL_UNTERMINATED_STR_LIT = 16,      /* the source ends in a string */
+    PUFFSATCHEL_UNTERMINATED_BYTE_STR_LIT = 17, /* the source ends in a byte string */
+    PUFFSATCHEL_UNEXPECTED_CHAR = 18,           /* no token begins with this character */
+    PUFFSATCHEL_TOO_DEEP = 19,                  /* a 65th template is opened within templates */
 
     /* A body. */
-    PUFFSATCHEL_BAD_ESCAPE_SEQUENCE = 20,
-    PUFFSATCHEL_BAD_UNICODE_ESCAPE_IN_BYTE_STRING = 21,
-    PUFFSATCHEL_BAD_UNICODE_ESCAPE = 22,
-    PUFFSATCHEL_BAD_HEX_ESCAPE_CHAR = 23,
-    PUFFSATCHEL_BAD_BYTE_ESCAPE = 24,
-    PUFFSATCHEL_NOT_ASCII = 25,    /* a scalar above U+007F in bytes */
-    PUFFSATCHEL_OUTPUT_SHORT = 26, /* the output does not fit */
-    PUFFSATCHEL_NOT_ONE_ITEM = 27, /* a char or a byte of none or of more than one */
+    PUFFSATCHEL_BAD_ESCAPE_SEQUENCE = 20,               /* there is no such escape in this form of body */
+    PUFFSATCHEL_BAD_UNICODE_ESCAPE_IN_BYTE_STRING = 21, /* there is no Unicode escape in bytes */
+    PUFFSATCHEL_BAD_UNICODE_ESCAPE = 22,                /* the Unicode escape names no scalar */
+    PUFFSATCHEL_BAD_HEX_ESCAPE_CHAR = 23,               /* `\x` is above 7f in text */
+    PUFFSATCHEL_BAD_BYTE_ESCAPE = 24,                   /* two hex digits do not follow `\x` */
+    PUFFSATCHEL_NOT_ASCII = 25,                         /* a scalar above U+007F stands in bytes */
+    PUFFSATCHEL_OUTPUT_SHORT = 26,                      /* what the body stands for does not fit */
+    PUFFSATCHEL_NOT_ONE_ITEM = 27,                      /* a char or a byte holds none or more than one */
 
-    /* The lookahead; span 0..0. */
-    PUFFSATCHEL_TOO_FAR = 30,      /* n above 7, array above 8 */
+    /* The lookahead. */
+    PUFFSATCHEL_TOO_FAR = 30,      /* the lookahead holds at most 8 tokens */
     PUFFSATCHEL_WAITING_FULL = 31, /* a 257th token of white space would wait */
-    PUFFSATCHEL_PAST_HELD = 32,    /* more than are held */
-    PUFFSATCHEL_STORE_SHORT = 33,  /* no room for what is emitted */
-    PUFFSATCHEL_FAULTY = 34,       /* a list that is faulty by 40, 42 or 43, or a state that cannot be this list's */
+    PUFFSATCHEL_PAST_HELD = 32,    /* the advance goes past the held tokens */
+    PUFFSATCHEL_STORE_SHORT = 33,  /* the store is too short for what would be emitted */
+    PUFFSATCHEL_FAULTY = 34,       /* the list is faulty, or the state is not this list's */
 
-    /* A stored list; start and end name the record, from 0 on. */
-    PUFFSATCHEL_BAD_LENGTH = 40, /* no whole number of records */
-    PUFFSATCHEL_BAD_MARK = 41,
-    PUFFSATCHEL_BAD_KIND = 42,   /* outside 1 to 66 */
-    PUFFSATCHEL_GAP = 43         /* a start other than the end before it, or an end that is not past its start */
+    /* A stored list. */
+    PUFFSATCHEL_BAD_LENGTH = 40, /* the length is no whole number of records */
+    PUFFSATCHEL_BAD_MARK = 41,   /* the record does not begin with its mark */
+    PUFFSATCHEL_BAD_KIND = 42,   /* the record's kind is outside 1 to 66 */
+    PUFFSATCHEL_GAP = 43,        /* the record is empty, or does not begin where the one before it ended */
+    /* tools/texts.py ends refusals */
 };
 
-/* What puffsatchel_findings finds. */
+/* The codes of findings. 60 and 61 are of a comment, or of a template where the byte at start is a backtick. */
 enum {
-    PUFFSATCHEL_RUNS_ON = 60,           /* a comment or a template that does not end where it seems to */
-    PUFFSATCHEL_RUNS_ON_BLANK = 61,     /* the same, over white space and comments alone */
-    PUFFSATCHEL_READ_AS_CODE = 62,      /* a token in force that seems to be inside a comment */
-    PUFFSATCHEL_COMMENT_UNCLOSED = 63,  /* to the end of the source */
-    PUFFSATCHEL_TEMPLATE_UNCLOSED = 64, /* no backtick closes it */
-    PUFFSATCHEL_BYTE_ORDER_MARK = 65    /* EF BB BF at the start of the source; rune refuses it with 18 */
+    /* tools/texts.py writes findings, from texts.txt */
+    PUFFSATCHEL_RUNS_ON = 60,           /* this comment does not end where it seems to; more than white space and comments stands in the stretch, and it is not in force */
+    PUFFSATCHEL_RUNS_ON_BLANK = 61,     /* this comment does not end where it seems to; only white space and comments stand in the stretch */
+    PUFFSATCHEL_READ_AS_CODE = 62,      /* this is in force, though it looks like a comment; the stretch is what looks like the comment */
+    PUFFSATCHEL_COMMENT_UNCLOSED = 63,  /* nothing closes this comment; all text after its opening is comment */
+    PUFFSATCHEL_TEMPLATE_UNCLOSED = 64, /* nothing closes this template; all text after its opening is template */
+    PUFFSATCHEL_BYTE_ORDER_MARK = 65,   /* the file begins with a byte order mark, and rune refuses it; refusal 18 follows it */
+    /* tools/texts.py ends findings */
 };
 
 /* How a source is read, which the caller names in every call that reads one: one number of or-ed names, one name for each part. In this version
@@ -320,6 +327,146 @@ uint32_t puffsatchel_advance(puffsatchel_ahead *state, uint32_t tested, size_t n
 
 /* Writes the next n tokens and emits none of them: they stay. 30 where n is above 8. */
 uint32_t puffsatchel_array(puffsatchel_ahead *state, uint32_t tested, size_t n, const uint32_t *list, size_t list_len, uint32_t *out, size_t out_len, puffsatchel_answer *answer);
+
+/* Texts, in English: what a kind is, what a refusal means and what to do about it, and the same of a finding, where first is the byte at the
+ * start of its record: it tells a template from a comment. */
+
+/* tools/texts.py writes texts, from texts.txt */
+static inline const char *puffsatchel_kind_text(uint32_t kind)
+{
+    switch (kind) {
+    case PUFFSATCHEL_KIND_WHITESPACE: return "white space";
+    case PUFFSATCHEL_KIND_COMMENT: return "a comment to the end of the line";
+    case PUFFSATCHEL_KIND_MULTILINE_COMMENT: return "a closed comment";
+    case PUFFSATCHEL_KIND_UNCLOSED_COMMENT: return "a comment that nothing closes";
+    case PUFFSATCHEL_KIND_SHEBANG: return "a shebang";
+    case PUFFSATCHEL_KIND_IDENT: return "a word";
+    case PUFFSATCHEL_KIND_UNDERSCORE: return "a lone `_`";
+    case PUFFSATCHEL_KIND_NUMBER: return "a number";
+    case PUFFSATCHEL_KIND_CHAR: return "a char";
+    case PUFFSATCHEL_KIND_BYTE: return "a byte";
+    case PUFFSATCHEL_KIND_STR: return "a string";
+    case PUFFSATCHEL_KIND_ESCAPED_STR: return "a string with a backslash in it";
+    case PUFFSATCHEL_KIND_BYTE_STR: return "a byte string";
+    case PUFFSATCHEL_KIND_ESCAPED_BYTE_STR: return "a byte string with a backslash in it";
+    case PUFFSATCHEL_KIND_LABEL: return "a label";
+    case PUFFSATCHEL_KIND_TEMPLATE: return "a template";
+    case PUFFSATCHEL_KIND_BANG: return "`!`";
+    case PUFFSATCHEL_KIND_POUND: return "`#`";
+    case PUFFSATCHEL_KIND_DOLLAR: return "`$`";
+    case PUFFSATCHEL_KIND_PERC: return "`%`";
+    case PUFFSATCHEL_KIND_AMP: return "`&`";
+    case PUFFSATCHEL_KIND_OPEN_ROUND: return "`(`";
+    case PUFFSATCHEL_KIND_CLOSE_ROUND: return "`)`";
+    case PUFFSATCHEL_KIND_STAR: return "`*`";
+    case PUFFSATCHEL_KIND_PLUS: return "`+`";
+    case PUFFSATCHEL_KIND_COMMA: return "`,`";
+    case PUFFSATCHEL_KIND_DASH: return "`-`";
+    case PUFFSATCHEL_KIND_DOT: return "`.`";
+    case PUFFSATCHEL_KIND_DIV: return "`/`";
+    case PUFFSATCHEL_KIND_COLON: return "`:`";
+    case PUFFSATCHEL_KIND_SEMI_COLON: return "`;`";
+    case PUFFSATCHEL_KIND_LT: return "`<`";
+    case PUFFSATCHEL_KIND_EQ: return "`=`";
+    case PUFFSATCHEL_KIND_GT: return "`>`";
+    case PUFFSATCHEL_KIND_QUESTION_MARK: return "`?`";
+    case PUFFSATCHEL_KIND_AT: return "`@`";
+    case PUFFSATCHEL_KIND_OPEN_SQUARE: return "`[`";
+    case PUFFSATCHEL_KIND_CLOSE_SQUARE: return "`]`";
+    case PUFFSATCHEL_KIND_CARET: return "`^`";
+    case PUFFSATCHEL_KIND_OPEN_CURLY: return "`{`";
+    case PUFFSATCHEL_KIND_PIPE: return "`|`";
+    case PUFFSATCHEL_KIND_CLOSE_CURLY: return "`}`";
+    case PUFFSATCHEL_KIND_TILDE: return "`~`";
+    case PUFFSATCHEL_KIND_BANG_EQ: return "`!=`";
+    case PUFFSATCHEL_KIND_PERC_EQ: return "`%=`";
+    case PUFFSATCHEL_KIND_AMP_AMP: return "`&&`";
+    case PUFFSATCHEL_KIND_AMP_EQ: return "`&=`";
+    case PUFFSATCHEL_KIND_STAR_EQ: return "`*=`";
+    case PUFFSATCHEL_KIND_PLUS_EQ: return "`+=`";
+    case PUFFSATCHEL_KIND_DASH_EQ: return "`-=`";
+    case PUFFSATCHEL_KIND_ARROW: return "`->`";
+    case PUFFSATCHEL_KIND_DOT_DOT: return "`..`";
+    case PUFFSATCHEL_KIND_SLASH_EQ: return "`/=`";
+    case PUFFSATCHEL_KIND_COLON_COLON: return "`::`";
+    case PUFFSATCHEL_KIND_LT_LT: return "`<<`";
+    case PUFFSATCHEL_KIND_LT_EQ: return "`<=`";
+    case PUFFSATCHEL_KIND_EQ_EQ: return "`==`";
+    case PUFFSATCHEL_KIND_ROCKET: return "`=>`";
+    case PUFFSATCHEL_KIND_GT_EQ: return "`>=`";
+    case PUFFSATCHEL_KIND_GT_GT: return "`>>`";
+    case PUFFSATCHEL_KIND_CARET_EQ: return "`^=`";
+    case PUFFSATCHEL_KIND_PIPE_EQ: return "`|=`";
+    case PUFFSATCHEL_KIND_PIPE_PIPE: return "`||`";
+    case PUFFSATCHEL_KIND_DOT_DOT_EQ: return "`..=`";
+    case PUFFSATCHEL_KIND_LT_LT_EQ: return "`<<=`";
+    case PUFFSATCHEL_KIND_GT_GT_EQ: return "`>>=`";
+    case PUFFSATCHEL_KIND_EOF: return "the end of the source";
+    default: return "a number that this header has no text for; use the puffsatchel.h that stands beside the archive";
+    }
+}
+
+static inline const char *puffsatchel_refusal_text(uint32_t refusal)
+{
+    switch (refusal) {
+    case PUFFSATCHEL_ACCEPTED: return "nothing was refused";
+    case PUFFSATCHEL_TOO_LONG: return "the source is over 65,536 bytes; split it";
+    case PUFFSATCHEL_ILL_FORMED: return "the source is not UTF-8 from here on; save it as UTF-8";
+    case PUFFSATCHEL_NO_ROOM: return "the lent memory is full; lend more";
+    case PUFFSATCHEL_NO_PLACE: return "the place is past the end or inside a character; begin where a token ended";
+    case PUFFSATCHEL_NO_SUCH_FORM: return "the number names no form of a body; give 1 to 5";
+    case PUFFSATCHEL_NO_SUCH_READING: return "the number names no reading; give 1 or 2";
+    case PUFFSATCHEL_EXPECTED_ESCAPE: return "the source ends after a backslash; finish the escape and close the literal";
+    case PUFFSATCHEL_UNTERMINATED_CHAR_LIT: return "a control character stands in a char; close the char before it, or write an escape";
+    case PUFFSATCHEL_EXPECTED_CHAR_CLOSE: return "a char is empty; put a character between its quotes";
+    case PUFFSATCHEL_EXPECTED_CHAR_OR_LABEL: return "the source ends after a single quote; write a char or a label";
+    case PUFFSATCHEL_EXPECTED_BYTE_CLOSE: return "the source ends in a byte; close it with a single quote";
+    case PUFFSATCHEL_UNTERMINATED_BYTE_LIT: return "a control character stands in a byte; close the byte before it, or write an escape";
+    case PUFFSATCHEL_UNTERMINATED_STR_LIT: return "the source ends in a string; close it with a quote";
+    case PUFFSATCHEL_UNTERMINATED_BYTE_STR_LIT: return "the source ends in a byte string; close it with a quote";
+    case PUFFSATCHEL_UNEXPECTED_CHAR: return "no token begins with this character; take it out, or put it in a string or a comment";
+    case PUFFSATCHEL_TOO_DEEP: return "a 65th template is opened within templates; take one out into a variable";
+    case PUFFSATCHEL_BAD_ESCAPE_SEQUENCE: return "there is no such escape in this form of body; double the backslash, or use an escape of this form";
+    case PUFFSATCHEL_BAD_UNICODE_ESCAPE_IN_BYTE_STRING: return "there is no Unicode escape in bytes; write its bytes as `\\x..`";
+    case PUFFSATCHEL_BAD_UNICODE_ESCAPE: return "the Unicode escape names no scalar; write `\\u{..}` with the hex digits of a scalar";
+    case PUFFSATCHEL_BAD_HEX_ESCAPE_CHAR: return "`\\x` is above 7f in text; write `\\u{..}`";
+    case PUFFSATCHEL_BAD_BYTE_ESCAPE: return "two hex digits do not follow `\\x`; write both digits";
+    case PUFFSATCHEL_NOT_ASCII: return "a scalar above U+007F stands in bytes; write its bytes as `\\x..`";
+    case PUFFSATCHEL_OUTPUT_SHORT: return "what the body stands for does not fit; lend as many bytes as the body has";
+    case PUFFSATCHEL_NOT_ONE_ITEM: return "a char or a byte holds none or more than one; write exactly one, or make it a string";
+    case PUFFSATCHEL_TOO_FAR: return "the lookahead holds at most 8 tokens; ask for 0 to 7, and for an array of up to 8";
+    case PUFFSATCHEL_WAITING_FULL: return "a 257th token of white space would wait; drop white space, or read the list itself";
+    case PUFFSATCHEL_PAST_HELD: return "the advance goes past the held tokens; fill first";
+    case PUFFSATCHEL_STORE_SHORT: return "the store is too short for what would be emitted; lend more and call again";
+    case PUFFSATCHEL_FAULTY: return "the list is faulty, or the state is not this list's; begin again with a listed source and a fresh state";
+    case PUFFSATCHEL_BAD_LENGTH: return "the length is no whole number of records; give the list whole";
+    case PUFFSATCHEL_BAD_MARK: return "the record does not begin with its mark; give bytes that `store` has written";
+    case PUFFSATCHEL_BAD_KIND: return "the record's kind is outside 1 to 66; give a list that a source was listed to";
+    case PUFFSATCHEL_GAP: return "the record is empty, or does not begin where the one before it ended; give the tokens in order, none left out";
+    default: return "a number that this header has no text for; use the puffsatchel.h that stands beside the archive";
+    }
+}
+
+static inline const char *puffsatchel_finding_text(uint32_t code, uint8_t first)
+{
+    switch (code) {
+    case PUFFSATCHEL_RUNS_ON:
+    case PUFFSATCHEL_RUNS_ON_BLANK:
+        return first == '`'
+            ? "this template does not end where it seems to; take the comment after the backslash out of the template"
+            : "this comment does not end where it seems to; write `/*  */` with two blanks, or use `//`";
+    case PUFFSATCHEL_READ_AS_CODE:
+        return "this is in force, though it looks like a comment; mend the comment before it that runs on";
+    case PUFFSATCHEL_COMMENT_UNCLOSED:
+        return "nothing closes this comment; close it with `*/`";
+    case PUFFSATCHEL_TEMPLATE_UNCLOSED:
+        return "nothing closes this template; close it with a backtick";
+    case PUFFSATCHEL_BYTE_ORDER_MARK:
+        return "the file begins with a byte order mark, and rune refuses it; save the file as UTF-8 without a byte order mark";
+    default: return "a number that this header has no text for; use the puffsatchel.h that stands beside the archive";
+    }
+}
+/* tools/texts.py ends texts */
 
 #ifdef __cplusplus
 }

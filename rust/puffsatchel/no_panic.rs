@@ -5,7 +5,8 @@
 use core::fmt::{self, Write};
 
 use puffsatchel::{findings, list, load, outline, read, store, test, unescape};
-use puffsatchel::{Code, Finding, Findings, Form, Kind, Lexer, Lookahead, Reading, Reason, Refusal, Stopped, Token, Tokens, Whitespace};
+use puffsatchel::{Code, Finding, Findings, Stopped, Token, Tokens};
+use puffsatchel::{Form, Kind, Lexer, Lookahead, Reading, Reason, Refusal, Whitespace};
 
 #[no_mangle]
 pub fn readings() -> [Reading; 2] {
@@ -44,17 +45,17 @@ pub fn tokens_next(tokens: &mut Tokens<'_>) -> Option<Result<Token, Refusal>> {
 }
 
 #[no_mangle]
-pub fn finds<'a>(source: &[u8], reading: Reading, words: &'a mut [u32]) -> Result<Findings<'a>, Stopped> {
+pub fn finds<'a>(source: &'a [u8], reading: Reading, words: &'a mut [u32]) -> Result<Findings<'a>, Stopped> {
     findings(source, reading, words)
 }
 
 #[no_mangle]
-pub fn findings_new(words: &[u32]) -> Findings<'_> {
-    Findings::of(words)
+pub fn findings_new<'a>(source: &'a [u8], words: &'a [u32]) -> Findings<'a> {
+    Findings::of(source, words)
 }
 
 #[no_mangle]
-pub fn findings_next(found: &mut Findings<'_>) -> Option<Finding> {
+pub fn findings_next(found: &mut Findings<'_>) -> Option<Result<Finding, Refusal>> {
     found.next()
 }
 
@@ -95,11 +96,19 @@ pub fn numbers(number: u32) -> (Option<Kind>, Option<Reason>, u32) {
 }
 
 #[no_mangle]
-pub fn numbered(kind: Kind, reason: Reason, code: Code) -> (u32, u32, u32, bool) {
-    (kind.number(), reason.number(), code.number(), kind.is_whitespace())
+pub fn numbered(kind: Kind, reason: Reason) -> (u32, u32, bool) {
+    (kind.number(), reason.number(), kind.is_whitespace())
 }
 
 #[no_mangle]
 pub fn said(stopped: &Stopped, kind: Kind, out: &mut dyn Write) -> fmt::Result {
-    write!(out, "{stopped} {stopped:?} {kind:?}")
+    write!(out, "{stopped} {stopped:?} {kind} {kind:?}")
+}
+
+#[no_mangle]
+pub fn code_said(number: u32, first: u8, out: &mut dyn Write) -> fmt::Result {
+    match Code::from_number(number, first) {
+        Some(code) => write!(out, "{} {code} {code:?} {} {}", code.number(), code.name(), code.cure()),
+        None => Ok(()),
+    }
 }

@@ -430,6 +430,27 @@ static void refuses_a_reading(void) {
     }
 }
 
+static int same(const char *text, const char *wanted) {
+    return strcmp(text, wanted) == 0;
+}
+
+static void says_in_words(void) {
+    const char *none = puffsatchel_kind_text(0);
+    uint32_t number;
+    for (number = 0; number <= 100; number++) {
+        EXPECT(same(puffsatchel_kind_text(number), none) == (number < 1 || number > 67));
+        EXPECT(same(puffsatchel_finding_text(number, '/'), none) == (number < 60 || number > 65));
+    }
+    EXPECT(same(puffsatchel_kind_text(PUFFSATCHEL_KIND_MULTILINE_COMMENT), "a closed comment"));
+    EXPECT(same(puffsatchel_kind_text(PUFFSATCHEL_KIND_EQ_EQ), "`==`"));
+    EXPECT(same(puffsatchel_refusal_text(PUFFSATCHEL_ACCEPTED), "nothing was refused"));
+    EXPECT(same(puffsatchel_refusal_text(PUFFSATCHEL_UNTERMINATED_STR_LIT), "the source ends in a string; close it with a quote"));
+    EXPECT(same(puffsatchel_refusal_text(PUFFSATCHEL_BAD_HEX_ESCAPE_CHAR), "`\\x` is above 7f in text; write `\\u{..}`"));
+    EXPECT(same(puffsatchel_refusal_text(7), none) && same(puffsatchel_refusal_text(44), none));
+    EXPECT(strncmp(puffsatchel_finding_text(PUFFSATCHEL_RUNS_ON, '/'), "this comment ", 13) == 0);
+    EXPECT(strncmp(puffsatchel_finding_text(PUFFSATCHEL_RUNS_ON_BLANK, '`'), "this template ", 14) == 0);
+}
+
 static void reads_by(uint32_t number) {
     reading = number;
     reads_a_token();
@@ -457,6 +478,7 @@ int main(void) {
     unescapes();
     keeps();
     loads();
+    says_in_words();
     printf("%d passed, %d failed\n", passed, failed);
     return failed != 0;
 }

@@ -8,6 +8,7 @@ use crate::code::Code;
 use crate::lexer::Span;
 use crate::lists::Stopped;
 use crate::reading::Reading;
+use crate::refusal::{Reason, Refusal};
 use crate::FINDING_WORDS;
 
 /// A token that is not what it seems, or that nothing closes.
@@ -17,8 +18,8 @@ pub struct Finding {
     pub code: Code,
     /// The token.
     pub span: Span,
-    /// For [`Code::RunsOn`] and [`Code::RunsOnBlank`] what stands between the two ends of the token, for
-    /// [`Code::ReadAsCode`] the comment that the token seems to be inside, else a point at the token's end.
+    /// Where a token runs on, what stands between its two ends; for [`Code::ReadAsCode`] the comment that the token seems
+    /// to be inside; else a point at the token's end.
     pub stretch: Span,
 }
 
@@ -33,30 +34,34 @@ pub struct Finding {
 /// let source = "/**/ const QUIET = true;\n/**/ const RETRIES = 3;\n";
 /// let mut store = [0; 10];
 /// for finding in findings(source, Reading::rune(), &mut store)? {
-///     assert_eq!(finding.code, Code::RunsOn);
+///     let finding = finding?;
+///     assert_eq!(finding.code, Code::CommentRunsOn);
 ///     assert_eq!(&source[finding.stretch.range()], " const QUIET = true;\n/**/");
 /// }
-/// # Ok::<(), puffsatchel::Stopped>(())
+/// # Ok::<(), Box<dyn std::error::Error>>(())
 /// ```
 ///
 /// A refusal is the answer where reading stops, or where a finding has no five words in the store. What was found before
 /// it is in the store, and [`Findings::of`] reads it:
 ///
 /// ```
-/// use puffsatchel::{findings, Code, Findings, Reading, Reason, FINDING_WORDS};
+/// use puffsatchel::{findings, Findings, Reading, Reason, FINDING_WORDS};
 ///
+/// let source = "/**/a/**/ \"";
 /// let mut store = [0; 10];
-/// let stopped = findings("/**/a/**/ \"", Reading::rune(), &mut store).unwrap_err();
+/// let stopped = findings(source, Reading::rune(), &mut store).unwrap_err();
 /// assert_eq!(stopped.refusal.reason, Reason::UnterminatedStrLit);
 ///
-/// let found = Findings::of(&store[..FINDING_WORDS * stopped.count]);
-/// assert!(found.map(|finding| finding.code).eq([Code::RunsOn]));
+/// for finding in Findings::of(source, &store[..FINDING_WORDS * stopped.count]) {
+///     assert_eq!(finding?.code.name(), "comment-runs-on");
+/// }
+/// # Ok::<(), puffsatchel::Refusal>(())
 /// ```
 ///
 /// The words after the last finding stored are unchanged. A store of five words for each byte of the source, or of
 /// [`LARGEST_FINDINGS`](crate::LARGEST_FINDINGS) words, is always enough.
 pub fn findings<'a, S: AsRef<[u8]> + ?Sized>(
-    source: &S,
+    source: &'a S,
     reading: Reading,
     store: &'a mut [u32],
 ) -> Result<Findings<'a>, Stopped> {
@@ -64,43 +69,48 @@ pub fn findings<'a, S: AsRef<[u8]> + ?Sized>(
     let count = answered.answer.count;
 
     match answered.refusal {
-        None => Ok(Findings::of(store.get(..FINDING_WORDS.saturating_mul(count)).unwrap_or_default())),
+        None => Ok(Findings::of(source, store.get(..FINDING_WORDS.saturating_mul(count)).unwrap_or_default())),
         Some(refusal) => Err(Stopped { count, refusal }),
     }
 }
 
-/// The findings in a store, as [`findings`] writes them.
+/// The findings in a store, as [`findings`] writes them. After a refusal and at the end it gives none for ever.
+///
+/// The only refusal is [`Reason::OtherVersion`], of a number that is no finding's: no store of ours has one.
 #[derive(Debug, Clone)]
-pub struct Findings<'a>(ChunksExact<'a, u32>);
+pub struct Findings<'a> {
+    source: &'a [u8],
+    words: ChunksExact<'a, u32>,
+}
 
 impl<'a> Findings<'a> {
-    /// The findings in these words, five each; what is left over at the end is none.
+    /// The findings in these words, five each; what is left over at the end is none. The source tells a template from a
+    /// comment.
     #[must_use]
-    pub fn of(words: &'a [u32]) -> Self {
-        Self(words.chunks_exact(FINDING_WORDS))
+    pub fn of<S: AsRef<[u8]> + ?Sized>(source: &'a S, words: &'a [u32]) -> Self {
+        Self { source: source.as_ref(), words: words.chunks_exact(FINDING_WORDS) }
     }
 }
 
 impl Iterator for Findings<'_> {
-    type Item = Finding;
+    type Item = Result<Finding, Refusal>;
 
-    fn next(&mut self) -> Option<Finding> {
-        let &[number, start, end, from, to] = self.0.next()? else {
+    fn next(&mut self) -> Option<Self::Item> {
+        let &[number, start, end, from, to] = self.words.next()? else {
             return None;
         };
 
-        Some(Finding { code: Code::of(number), span: span(start, end), stretch: span(from, to) })
-    }
+        let span = Span { start: start as usize, end: end as usize };
+        let stretch = Span { start: from as usize, end: to as usize };
+        let first = self.source.get(span.start).copied().unwrap_or_default();
 
-    fn size_hint(&self) -> (usize, Option<usize>) {
-        self.0.size_hint()
+        let Some(code) = Code::from_number(number, first) else {
+            *self = Self::of(&[], &[]);
+            return Some(Err(Refusal { reason: Reason::OtherVersion(number), span, reached: span.end }));
+        };
+
+        Some(Ok(Finding { code, span, stretch }))
     }
 }
-
-impl ExactSizeIterator for Findings<'_> {}
 
 impl FusedIterator for Findings<'_> {}
-
-fn span(start: u32, end: u32) -> Span {
-    Span { start: start as usize, end: end as usize }
-}

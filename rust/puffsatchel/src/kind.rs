@@ -1,5 +1,7 @@
 //! The kinds of tokens, in the order of their numbers.
 
+use core::fmt;
+
 /// What a token is. [`Kind::number`] is its outside form, the number that stands in a list.
 #[derive(Debug, Clone, Copy, PartialEq, Eq, Hash)]
 pub enum Kind {
@@ -35,6 +37,7 @@ pub enum Kind {
     Label,
     /// A template, closed or up to the end of the source.
     TemplateString,
+    // tools/texts.py writes operators 17 to 21, from texts.txt
     /// `!`
     Bang,
     /// `#`
@@ -45,10 +48,12 @@ pub enum Kind {
     Perc,
     /// `&`
     Amp,
+    // tools/texts.py ends operators 17 to 21
     /// An opening bracket.
     Open(Delimiter),
     /// A closing bracket.
     Close(Delimiter),
+    // tools/texts.py writes operators 24 to 66, from texts.txt
     /// `*`
     Star,
     /// `+`
@@ -127,6 +132,7 @@ pub enum Kind {
     LtLtEq,
     /// `>>=`
     GtGtEq,
+    // tools/texts.py ends operators 24 to 66
     /// The end of the source. It is never in a list.
     Eof,
 }
@@ -143,7 +149,7 @@ pub enum Delimiter {
 }
 
 macro_rules! numbered {
-    ($($number:literal [$($kind:tt)*])*) => {
+    ($($number:literal [$($kind:tt)*] $what:literal)*) => {
         impl Kind {
             /// The kind's number, from 1 to 67.
             #[must_use]
@@ -162,77 +168,88 @@ macro_rules! numbered {
                 }
             }
         }
+
+        /// What it is, in words or as its characters: `a closed comment`, `` `==` ``.
+        impl fmt::Display for Kind {
+            fn fmt(&self, f: &mut fmt::Formatter<'_>) -> fmt::Result {
+                f.write_str(match self {
+                    $(Kind::$($kind)* => $what,)*
+                })
+            }
+        }
     };
 }
 
 numbered! {
-    1 [Whitespace]
-    2 [Comment]
-    3 [MultilineComment(true)]
-    4 [MultilineComment(false)]
-    5 [Shebang]
-    6 [Ident]
-    7 [Underscore]
-    8 [Number]
-    9 [Char]
-    10 [Byte]
-    11 [Str { escaped: false }]
-    12 [Str { escaped: true }]
-    13 [ByteStr { escaped: false }]
-    14 [ByteStr { escaped: true }]
-    15 [Label]
-    16 [TemplateString]
-    17 [Bang]
-    18 [Pound]
-    19 [Dollar]
-    20 [Perc]
-    21 [Amp]
-    22 [Open(Delimiter::Parenthesis)]
-    23 [Close(Delimiter::Parenthesis)]
-    24 [Star]
-    25 [Plus]
-    26 [Comma]
-    27 [Dash]
-    28 [Dot]
-    29 [Div]
-    30 [Colon]
-    31 [SemiColon]
-    32 [Lt]
-    33 [Eq]
-    34 [Gt]
-    35 [QuestionMark]
-    36 [At]
-    37 [Open(Delimiter::Bracket)]
-    38 [Close(Delimiter::Bracket)]
-    39 [Caret]
-    40 [Open(Delimiter::Brace)]
-    41 [Pipe]
-    42 [Close(Delimiter::Brace)]
-    43 [Tilde]
-    44 [BangEq]
-    45 [PercEq]
-    46 [AmpAmp]
-    47 [AmpEq]
-    48 [StarEq]
-    49 [PlusEq]
-    50 [DashEq]
-    51 [Arrow]
-    52 [DotDot]
-    53 [SlashEq]
-    54 [ColonColon]
-    55 [LtLt]
-    56 [LtEq]
-    57 [EqEq]
-    58 [Rocket]
-    59 [GtEq]
-    60 [GtGt]
-    61 [CaretEq]
-    62 [PipeEq]
-    63 [PipePipe]
-    64 [DotDotEq]
-    65 [LtLtEq]
-    66 [GtGtEq]
-    67 [Eof]
+    // tools/texts.py writes kinds, from texts.txt
+    1 [Whitespace] "white space"
+    2 [Comment] "a comment to the end of the line"
+    3 [MultilineComment(true)] "a closed comment"
+    4 [MultilineComment(false)] "a comment that nothing closes"
+    5 [Shebang] "a shebang"
+    6 [Ident] "a word"
+    7 [Underscore] "a lone `_`"
+    8 [Number] "a number"
+    9 [Char] "a char"
+    10 [Byte] "a byte"
+    11 [Str { escaped: false }] "a string"
+    12 [Str { escaped: true }] "a string with a backslash in it"
+    13 [ByteStr { escaped: false }] "a byte string"
+    14 [ByteStr { escaped: true }] "a byte string with a backslash in it"
+    15 [Label] "a label"
+    16 [TemplateString] "a template"
+    17 [Bang] "`!`"
+    18 [Pound] "`#`"
+    19 [Dollar] "`$`"
+    20 [Perc] "`%`"
+    21 [Amp] "`&`"
+    22 [Open(Delimiter::Parenthesis)] "`(`"
+    23 [Close(Delimiter::Parenthesis)] "`)`"
+    24 [Star] "`*`"
+    25 [Plus] "`+`"
+    26 [Comma] "`,`"
+    27 [Dash] "`-`"
+    28 [Dot] "`.`"
+    29 [Div] "`/`"
+    30 [Colon] "`:`"
+    31 [SemiColon] "`;`"
+    32 [Lt] "`<`"
+    33 [Eq] "`=`"
+    34 [Gt] "`>`"
+    35 [QuestionMark] "`?`"
+    36 [At] "`@`"
+    37 [Open(Delimiter::Bracket)] "`[`"
+    38 [Close(Delimiter::Bracket)] "`]`"
+    39 [Caret] "`^`"
+    40 [Open(Delimiter::Brace)] "`{`"
+    41 [Pipe] "`|`"
+    42 [Close(Delimiter::Brace)] "`}`"
+    43 [Tilde] "`~`"
+    44 [BangEq] "`!=`"
+    45 [PercEq] "`%=`"
+    46 [AmpAmp] "`&&`"
+    47 [AmpEq] "`&=`"
+    48 [StarEq] "`*=`"
+    49 [PlusEq] "`+=`"
+    50 [DashEq] "`-=`"
+    51 [Arrow] "`->`"
+    52 [DotDot] "`..`"
+    53 [SlashEq] "`/=`"
+    54 [ColonColon] "`::`"
+    55 [LtLt] "`<<`"
+    56 [LtEq] "`<=`"
+    57 [EqEq] "`==`"
+    58 [Rocket] "`=>`"
+    59 [GtEq] "`>=`"
+    60 [GtGt] "`>>`"
+    61 [CaretEq] "`^=`"
+    62 [PipeEq] "`|=`"
+    63 [PipePipe] "`||`"
+    64 [DotDotEq] "`..=`"
+    65 [LtLtEq] "`<<=`"
+    66 [GtGtEq] "`>>=`"
+    67 [Eof] "the end of the source"
+    // tools/texts.py ends kinds
 }
 
 impl Kind {

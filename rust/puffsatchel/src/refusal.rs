@@ -103,41 +103,43 @@ macro_rules! reasons {
 }
 
 reasons! {
+    // tools/texts.py writes refusals, from texts.txt
     1 TooLong: "the source is over 65,536 bytes", "split it";
-    2 IllFormed: "the source is no UTF-8", "save it as UTF-8";
+    2 IllFormed: "the source is not UTF-8 from here on", "save it as UTF-8";
     3 NoRoom: "the lent memory is full", "lend more";
-    4 NoPlace: "the place is past the end or inside a scalar", "begin where a token ended";
+    4 NoPlace: "the place is past the end or inside a character", "begin where a token ended";
     5 NoSuchForm: "the number names no form of a body", "give 1 to 5";
     6 NoSuchReading: "the number names no reading", "give 1 or 2";
 
-    10 ExpectedEscape: "the source ends behind a backslash", "say what it escapes";
-    11 UnterminatedCharLit: "a control stands in a char", "close the char before it, or write an escape";
-    12 ExpectedCharClose: "a char is empty", "put a scalar between its quotes";
-    13 ExpectedCharOrLabel: "the source ends behind a single quote", "write a char or a label";
+    10 ExpectedEscape: "the source ends after a backslash", "finish the escape and close the literal";
+    11 UnterminatedCharLit: "a control character stands in a char", "close the char before it, or write an escape";
+    12 ExpectedCharClose: "a char is empty", "put a character between its quotes";
+    13 ExpectedCharOrLabel: "the source ends after a single quote", "write a char or a label";
     14 ExpectedByteClose: "the source ends in a byte", "close it with a single quote";
-    15 UnterminatedByteLit: "a control stands in a byte", "close the byte before it, or write an escape";
+    15 UnterminatedByteLit: "a control character stands in a byte", "close the byte before it, or write an escape";
     16 UnterminatedStrLit: "the source ends in a string", "close it with a quote";
     17 UnterminatedByteStrLit: "the source ends in a byte string", "close it with a quote";
-    18 UnexpectedChar: "no token begins with this scalar", "take it out, or put it in a string or a comment";
-    19 TooDeep: "a 65th template is opened within templates", "take one out";
+    18 UnexpectedChar: "no token begins with this character", "take it out, or put it in a string or a comment";
+    19 TooDeep: "a 65th template is opened within templates", "take one out into a variable";
 
-    20 BadEscapeSequence: "nothing is escaped so", "double the backslash, or use an escape of this form of body";
-    21 BadUnicodeEscapeInByteString: "a byte has no Unicode escape", "write its bytes as \\x..";
-    22 BadUnicodeEscape: "the Unicode escape names no scalar", "write \\u{..} with the hex digits of a scalar";
-    23 BadHexEscapeChar: "\\x is above 7f in text", "write \\u{..}";
-    24 BadByteEscape: "\\x lacks two hex digits", "write both digits";
-    25 NotAscii: "a scalar above U+007F stands in bytes", "write its bytes as \\x..";
+    20 BadEscapeSequence: "there is no such escape in this form of body", "double the backslash, or use an escape of this form";
+    21 BadUnicodeEscapeInByteString: "there is no Unicode escape in bytes", "write its bytes as `\\x..`";
+    22 BadUnicodeEscape: "the Unicode escape names no scalar", "write `\\u{..}` with the hex digits of a scalar";
+    23 BadHexEscapeChar: "`\\x` is above 7f in text", "write `\\u{..}`";
+    24 BadByteEscape: "two hex digits do not follow `\\x`", "write both digits";
+    25 NotAscii: "a scalar above U+007F stands in bytes", "write its bytes as `\\x..`";
     26 OutputShort: "what the body stands for does not fit", "lend as many bytes as the body has";
-    27 NotOneItem: "a char or a byte is of none or of more than one", "write exactly one";
+    27 NotOneItem: "a char or a byte holds none or more than one", "write exactly one, or make it a string";
 
-    30 TooFar: "the lookahead goes no further than 8 tokens", "ask for 0 to 7";
+    30 TooFar: "the lookahead holds at most 8 tokens", "ask for 0 to 7, and for an array of up to 8";
     31 WaitingFull: "a 257th token of white space would wait", "drop white space, or read the list itself";
-    32 PastHeld: "the advance goes past the held tokens", "fill before it";
-    33 StoreShort: "the store is too short for what is emitted", "lend more";
-    34 Faulty: "the list or the state is faulty", "begin again with a listed source and a fresh state";
+    32 PastHeld: "the advance goes past the held tokens", "fill first";
+    33 StoreShort: "the store is too short for what would be emitted", "lend more and call again";
+    34 Faulty: "the list is faulty, or the state is not this list's", "begin again with a listed source and a fresh state";
 
     40 BadLength: "the length is no whole number of records", "give the list whole";
-    41 BadMark: "the record has no mark", "give bytes that store has written";
+    41 BadMark: "the record does not begin with its mark", "give bytes that `store` has written";
     42 BadKind: "the record's kind is outside 1 to 66", "give a list that a source was listed to";
-    43 Gap: "the record does not go on where the one before it ended", "give the tokens in order, none left out";
+    43 Gap: "the record is empty, or does not begin where the one before it ended", "give the tokens in order, none left out";
+    // tools/texts.py ends refusals
 }

@@ -216,5 +216,5 @@ fn faulty_lists() {
 
     let refusal = load(&record(0x55, 6, 1), &mut words).unwrap_err();
     assert_eq!(refusal.reason, Reason::BadMark);
-    assert_eq!(refusal.to_string(), "refused 41 at record 0: the record has no mark; give bytes that store has written");
+    assert_eq!(refusal.to_string(), "refused 41 at record 0: the record does not begin with its mark; give bytes that `store` has written");
 }

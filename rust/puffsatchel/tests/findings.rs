@@ -1,13 +1,14 @@
 //! What is found. Expected is what the two readings of a source say, by hand; the lent store is filled with a mark first, and
 //! all of it is compared afterwards.
 
-use puffsatchel::{findings, Code, Finding, Findings, Reading, Refusal, Span, Stopped, FINDING_WORDS, LARGEST_SOURCE};
+use puffsatchel::{findings, Code, Finding, Findings, Reading, Reason, Refusal, Span, Stopped};
+use puffsatchel::{FINDING_WORDS, LARGEST_SOURCE};
 
 const WORD: u32 = 0xa5a5_a5a5;
 
 fn words(found: Findings<'_>) -> Vec<[usize; 5]> {
     let words = |Finding { code, span, stretch }| [code.number() as usize, span.start, span.end, stretch.start, stretch.end];
-    found.map(words).collect()
+    found.map(|finding| finding.map(words).unwrap()).collect()
 }
 
 fn refused(refusal: Refusal) -> [usize; 4] {
@@ -22,7 +23,9 @@ fn found(source: &(impl AsRef<[u8]> + ?Sized), reading: Reading, room: usize) ->
 
     let answer = match findings(source, reading, &mut store[..room]) {
         Ok(found) => (words(found), None),
-        Err(Stopped { count, refusal }) => (words(Findings::of(&store[..FINDING_WORDS * count])), Some(refused(refusal))),
+        Err(Stopped { count, refusal }) => {
+            (words(Findings::of(source, &store[..FINDING_WORDS * count])), Some(refused(refusal)))
+        }
     };
 
     assert!(store[FINDING_WORDS * answer.0.len()..].iter().all(|&word| word == WORD));
@@ -73,14 +76,26 @@ fn a_source_that_cannot_be_read_has_no_findings() {
 }
 
 #[test]
-fn findings_of_words() {
-    let words = [62, 5, 6, 1, 9, 66, 6, 7, 7, 7, 60, 0, 1];
-    let mut found = Findings::of(&words);
-    assert_eq!(found.len(), 2);
+fn codes_by_the_byte_at_the_start() {
+    let words = [60, 0, 1, 1, 4, 60, 1, 2, 2, 4, 61, 9, 9, 9, 9, 62, 3];
+    let mut found = Findings::of("`/x;", &words);
+    let finding = |code, at, end| Finding { code, span: Span { start: at, end: at + 1 }, stretch: Span { start: at + 1, end } };
+    assert_eq!(found.next(), Some(Ok(finding(Code::TemplateRunsOn, 0, 4))));
+    assert_eq!(found.next(), Some(Ok(finding(Code::CommentRunsOn, 1, 4))));
+    assert_eq!(found.next().map(|finding| finding.map(|finding| finding.code)), Some(Ok(Code::CommentRunsOnBlank)));
+    assert_eq!(found.next(), None);
+}
 
-    let span = |start, end| Span { start, end };
-    let first = Finding { code: Code::ReadAsCode, span: span(5, 6), stretch: span(1, 9) };
-    let other = Finding { code: Code::OtherVersion(66), span: span(6, 7), stretch: span(7, 7) };
-    assert_eq!((found.next(), found.next()), (Some(first), Some(other)));
-    assert!(found.next().is_none() && found.next().is_none());
+#[test]
+fn a_number_that_is_no_code_ends_the_findings() {
+    for number in [0, 59, 66] {
+        let words = [63, 0, 2, 2, 2, number, 1, 3, 3, 3, 64, 3, 4, 4, 4];
+        let mut found = Findings::of("/*", &words);
+        assert!(found.next().is_some_and(|finding| finding.is_ok()));
+
+        let refusal = found.next().unwrap().unwrap_err();
+        assert_eq!((refusal.reason, refusal.span), (Reason::OtherVersion(number), Span { start: 1, end: 3 }));
+        assert_eq!(refusal.reached, 3);
+        assert!(found.next().is_none() && found.next().is_none(), "nothing comes after a refusal");
+    }
 }

@@ -1,6 +1,7 @@
 //! Reading token by token. What is expected is document 01's.
 
-use puffsatchel::{read, test, version, Delimiter, Kind, Lexer, Reading, Reason, Refusal, Span, Token, LARGEST_SOURCE, VERSION};
+use puffsatchel::{read, test, version, LARGEST_SOURCE, VERSION};
+use puffsatchel::{Code, Delimiter, Kind, Lexer, Reading, Reason, Refusal, Span, Token};
 
 type Numbers = (Vec<[usize; 3]>, Option<[usize; 4]>);
 
@@ -82,6 +83,7 @@ fn comments_end_by_the_reading() {
 fn operators_in_the_order_of_their_numbers() {
     for (number, operator) in (17..).zip(OPERATORS.split(' ')) {
         assert_eq!(both(operator), (vec![[number, 0, operator.len()]], None), "{operator}");
+        assert_eq!(Kind::from_number(number as u32).unwrap().to_string(), format!("`{operator}`"));
     }
 }
 
@@ -156,6 +158,7 @@ fn kinds_and_their_numbers() {
     assert_eq!(Kind::from_number(12), Some(Kind::Str { escaped: true }));
     assert_eq!(Kind::from_number(42), Some(Kind::Close(Delimiter::Brace)));
     assert_eq!(format!("{:?}", Kind::LtLtEq), "LtLtEq");
+    assert_eq!(Kind::MultilineComment(true).to_string(), "a closed comment");
     assert!((1..=67).all(|number| Kind::from_number(number).unwrap().is_whitespace() == (number <= 4)));
 }
 
@@ -173,11 +176,34 @@ fn every_reason_says_what_and_what_to_do() {
 
     let refusal = read("''", Reading::rune(), 0).unwrap_err();
     let error: &dyn std::error::Error = &refusal;
-    assert_eq!(error.to_string(), "refused 12 at 0..2: a char is empty; put a scalar between its quotes");
+    assert_eq!(error.to_string(), "refused 12 at 0..2: a char is empty; put a character between its quotes");
 
     // The lookahead's have no place.
     let refusal = Refusal { reason: Reason::PastHeld, span: Span::default(), reached: 0 };
-    assert_eq!(refusal.to_string(), "refused 32: the advance goes past the held tokens; fill before it");
+    assert_eq!(refusal.to_string(), "refused 32: the advance goes past the held tokens; fill first");
+}
+
+#[test]
+fn every_code_says_what_and_what_to_do() {
+    for number in 60..=65 {
+        for first in [b'/', b'`'] {
+            let code = Code::from_number(number, first).unwrap();
+            assert_eq!(code.number(), number);
+            assert!(!code.to_string().is_empty() && !code.cure().is_empty(), "{code:?}");
+        }
+    }
+
+    for number in [0, 59, 66, 160] {
+        assert_eq!(Code::from_number(number, b'`'), None);
+    }
+
+    let code = Code::from_number(61, b'`').unwrap();
+    assert_eq!((code, code.name()), (Code::TemplateRunsOnBlank, "template-runs-on"));
+
+    let code = Code::from_number(60, b'/').unwrap();
+    assert_eq!((code, code.name()), (Code::CommentRunsOn, "comment-runs-on"));
+    assert_eq!(code.to_string(), "this comment does not end where it seems to");
+    assert_eq!(code.cure(), "write `/*  */` with two blanks, or use `//`");
 }
 
 #[test]
