@@ -182,7 +182,7 @@ enum {
     /* tools/texts.py writes findings, from texts.txt */
     PUFFSATCHEL_RUNS_ON = 60,           /* this comment does not end where it seems to; more than white space and comments stands in the stretch, and it is not in force */
     PUFFSATCHEL_RUNS_ON_BLANK = 61,     /* this comment does not end where it seems to; only white space and comments stand in the stretch */
-    PUFFSATCHEL_READ_AS_CODE = 62,      /* this is in force, though it looks like a comment; the stretch is what looks like the comment */
+    PUFFSATCHEL_READ_AS_CODE = 62,      /* this is in force, though it looks like a comment; the stretch is that comment */
     PUFFSATCHEL_COMMENT_UNCLOSED = 63,  /* nothing closes this comment; all text after its opening is comment */
     PUFFSATCHEL_TEMPLATE_UNCLOSED = 64, /* nothing closes this template; all text after its opening is template */
     PUFFSATCHEL_BYTE_ORDER_MARK = 65,   /* the file begins with a byte order mark, and rune refuses it; refusal 18 follows it */

@@ -1,7 +1,7 @@
 #!/usr/bin/env python3
 """Writes the texts of kinds, refusals and findings, which stand in texts.txt, into every file that has them.
 
-usage: tools/texts.py [--check]        --check writes nothing, says which files are not as the table has them, and then exits 1
+usage: tools/texts.py [--check]        --check writes nothing, says which files are not as the table has them, and exits 1 if any is not
 
 A file is written whole (crates/wordings), or between a line `tools/texts.py writes PART` and a line `tools/texts.py ends PART`.
 """
@@ -14,6 +14,7 @@ FIELDS = {
     'refusals': ('number', 'name', 'what', 'cure', 'example', 'span', 'note'),
     'findings': ('number', 'name', 'c', 'rust', 'what', 'cure', 'note'),
 }
+MAY_BE_EMPTY = ('c', 'rust', 'example', 'note')
 LAST_PRINTED = 19  # a file is refused with no later number
 TEMPLATE = 100     # a template's finding has its code and this
 
@@ -49,6 +50,9 @@ def row_of(section, group, line, before):
         raise Wrong(f'a row begins with its number, and not with {fields[0]!r}')
     if '=' in fields and before is None:
         raise Wrong('= in the first row of a section: there is no row before it')
+    for name, field in zip(names, fields):
+        if field in ('', '-') and name not in MAY_BE_EMPTY:
+            raise Wrong(f'the field {name} is empty, and every row of {section} has one')
     fields = [getattr(before, name) if field == '=' else field for name, field in zip(names, fields)]
     return Row(group, {name: '' if field == '-' else field for name, field in zip(names, fields)})
 
@@ -80,6 +84,9 @@ def read_table(lines):
             heading = add_line(table, heading, line.strip())
         except Wrong as wrong:
             raise Wrong(f'texts.txt:{place}: {wrong}') from None
+    for section, rows in table.items():
+        if not rows:
+            raise Wrong(f'texts.txt: no row of {section}: it begins with a line [{section}]')
     for row in printed(table):
         for text in (row.name, row.what, row.cure):
             if not re.fullmatch(r'[ -~]+', text) or re.search(r'["\\]', text):
@@ -172,7 +179,7 @@ def c_refusals(table):
 
 def c_findings(table):
     rows = [row for row in table['findings'] if row.number < TEMPLATE]
-    return c_enum('PUFFSATCHEL_', rows, lambda row: f'{row.what}; {row.note[0].lower()}{row.note[1:].rstrip(".")}')
+    return c_enum('PUFFSATCHEL_', rows, lambda row: row.what + (row.note and f'; {row.note[0].lower()}{row.note[1:].rstrip(".")}'))
 
 
 def c_switch(name, parameters, on, cases):
@@ -242,8 +249,8 @@ def cell(text):
     return re.sub(r'`([^`]*\|[^`]*)`', lambda code: '<code>' + code.group(1).replace('|', '&#124;') + '</code>', text)
 
 
-def sentence(text):
-    return text[0].upper() + text[1:] + '.'
+def sentences(texts, note):
+    return ' '.join([text[0].upper() + text[1:] + '.' for text in texts] + [note] * bool(note))
 
 
 def md_table(heads, rows):
@@ -274,13 +281,12 @@ def md_operators(table):
 
 
 def md_refusals(table):
-    rows = [(str(row.number), row.name, row.example, row.span, ' '.join(filter(None, (sentence(row.what), sentence(row.cure), row.note))))
-            for row in table['refusals']]
+    rows = [(str(row.number), row.name, row.example, row.span, sentences((row.what, row.cure), row.note)) for row in table['refusals']]
     return md_table(('No', 'Name', 'Input', 'Span', 'What it means, what to do'), rows)
 
 
 def md_findings(table):
-    rows = [(str(row.number % TEMPLATE), row.name, f'{sentence(row.what)} {row.note}', sentence(row.cure)) for row in table['findings']]
+    rows = [(str(row.number % TEMPLATE), row.name, sentences((row.what,), row.note), sentences((row.cure,), '')) for row in table['findings']]
     return md_table(('No', 'Name', 'What it means', 'What to do'), sorted(rows, key=lambda row: row[0]))
 
 
@@ -317,22 +323,32 @@ def read_file(path):
         return file.read()
 
 
+def could_not_run(why):
+    print(f'tools/texts.py: {why}', file=sys.stderr)
+    sys.exit(2)
+
+
 def main():
-    check = sys.argv[1:] == ['--check']
-    if sys.argv[1:] and not check:
-        sys.exit(__doc__)
+    words = sys.argv[1:]
+    if words == ['--help']:
+        print(__doc__.strip())
+        return
+    if words not in ([], ['--check']):
+        could_not_run('usage: tools/texts.py [--check]')
     os.chdir(os.path.join(os.path.dirname(os.path.abspath(__file__)), '..'))
     try:
         stale = [(path, text) for path, now, text in wanted(read_table(read_file('texts.txt').split('\n'))) if now != text]
-    except (Wrong, OSError) as wrong:
-        sys.exit(f'tools/texts.py: {wrong}')
+    except Wrong as wrong:
+        could_not_run(wrong)
+    except OSError as error:
+        could_not_run(f'{error.filename}: {error.strerror}')
     for path, text in stale:
-        if check:
+        if words:
             print(f'tools/texts.py: {path} is not as texts.txt has it: change the table, and run python3 tools/texts.py', file=sys.stderr)
         else:
             with open(path, 'w', encoding='utf-8') as file:
                 file.write(text)
-    sys.exit(1 if check and stale else 0)
+    sys.exit(1 if words and stale else 0)
 
 
 if __name__ == '__main__':
