@@ -3,7 +3,8 @@
  * Puffsatchel: reads the text of site rules (Rune scripts) into tokens. Proved: every call answers on every input, and as this page says.
  *
  * Link with libpuffsatchel.a (bin/build-library). No call keeps or allocates memory, calls another library or has state of its own;
- * calls on different memory may run at the same time.
+ * calls on different memory may run at the same time. A call takes less than 1 KiB of stack, and less than 16 KiB where 64 templates stand in
+ * each other (measured; bin/test-c holds both).
  *
  * One convention for all: the result is the number of a refusal, 0 where nothing was refused. The rest of the answer goes to the record
  * that the caller lends, all five fields of it, in every case; what a call does not give is 0.
