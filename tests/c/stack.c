@@ -157,8 +157,8 @@ static size_t print_most(const struct call *calls, size_t count) {
 }
 
 static int within(size_t most, size_t bound) {
-    if (most <= bound) return 1;
-    printf("tests/c/stack.c: a call takes %lu bytes of stack, and puffsatchel.h says at most %lu\n", (unsigned long)most, (unsigned long)bound);
+    if (most < bound) return 1;
+    printf("tests/c/stack.c: a call takes %lu bytes of stack, and puffsatchel.h says less than %lu\n", (unsigned long)most, (unsigned long)bound);
     return 0;
 }
 
