@@ -4,7 +4,7 @@ use mathlib.Core.Path.{_≡_}
 use mathlib.Core.List.{List}
 use Rattle.answers.proofs.Promises.{Left-by, Told-by, left-determined, told-determined}
 use Rattle.laws.proofs.Determined.{determined}
-use Rattle.puffsatchel.specs.Calls.{listLeaves, listTells, nextTells, outlineLeaves, outlineTells, readTells, testTells, version}
+use Rattle.puffsatchel.specs.Calls.{findingsLeaves, findingsTells, listLeaves, listTells, nextTells, outlineLeaves, outlineTells, readTells, testTells, version}
 
 pub version-determined : (r q : ℕ) → r ≡ version → q ≡ version → r ≡ q
 version-determined r q h k = determined r q h k
@@ -25,3 +25,6 @@ module _ (n : ℕ) (s : List ℕ) (r q : ℕ) (v w : List ℕ) where
 
     pub outline-determined : Left-by (outlineTells n s l) (outlineLeaves n s l) r o v → Left-by (outlineTells n s l) (outlineLeaves n s l) q p w → (r ≡ q) × (o ≡ p) × (v ≡ w)
     outline-determined = left-determined (outlineTells n s l) (outlineLeaves n s l) r q o p v w
+
+    pub findings-determined : Left-by (findingsTells n s l) (findingsLeaves n s l) r o v → Left-by (findingsTells n s l) (findingsLeaves n s l) q p w → (r ≡ q) × (o ≡ p) × (v ≡ w)
+    findings-determined = left-determined (findingsTells n s l) (findingsLeaves n s l) r q o p v w

@@ -3,12 +3,12 @@
 use answers::tell;
 use readers::Chosen;
 ghost use mathlib.Core.Path.{_≡_};
-ghost use Rattle.puffsatchel.specs.Calls.{listLeaves, listTells, nextTells, outlineLeaves, outlineTells, readTells, testTells, version};
+ghost use Rattle.puffsatchel.specs.Calls.{findingsLeaves, findingsTells, listLeaves, listTells, nextTells, outlineLeaves, outlineTells, readTells, testTells, version};
 
 // A number that names no reading.
 const NO_SUCH_READING: u32 = 6;
 
-const VERSION: u32 = 4;
+const VERSION: u32 = 5;
 
 #[no_mangle]
 pub extern "C" fn puffsatchel_version() -> u32
@@ -89,4 +89,22 @@ pub extern "C" fn puffsatchel_outline(
     };
     let outlined = outline::outline(source, known, out);
     tell(answers::of_outlined(outlined), answer)
+}
+
+#[no_mangle]
+pub extern "C" fn puffsatchel_findings(
+    source: &[u8],
+    reading: u32,
+    store: &mut [u32],
+    answer: &mut [usize; 5],
+) -> u32
+    ensures { λ r. ⌜ (r ≡ findingsTells reading (now (source .entry)) (now (store .entry)) .number)
+        × (now (store .exit) ≡ findingsLeaves reading (now (source .entry)) (now (store .entry)))
+        × (now (answer .exit) ≡ findingsTells reading (now (source .entry)) (now (store .entry)) .words) ⌝ }
+{
+    let Chosen::OneReading { reading: known } = answers::reading_of(reading) else {
+        return tell(answers::point(NO_SUCH_READING, 0), answer);
+    };
+    let found = findings::findings(source, known, store);
+    tell(answers::of_listed(found), answer)
 }
