@@ -1,19 +1,22 @@
-# Read by bin/list and bin/outline: the options, and the proved program.
-root=$(cd "$(dirname "$0")/.." && pwd)
-tool=bin/$(basename "$0")
+# shellcheck shell=sh
+# Read by bin/list, bin/outline and bin/check: the options, the files, and how the program ended.
+# A script that has more options than --comments names them in `switches`; those that were given are in `asked`.
+. "$(dirname "$0")/script.sh"
+. "$(dirname "$0")/built.sh"
 
-fail() {
-    echo "$tool: $1" >&2
-    exit 2
-}
-
-usage() {
-    echo "usage: $tool [--comments crate|first] $1" >&2
-    exit 2
+# Whoever reads our output may stop early: that is exit 2 without a message.
+trap 'exit 2' PIPE
+# A closed descriptor would be taken by the next pipe.
+(: 3>&1) 2>/dev/null || fail "standard output is closed"
+stdin=open
+(: 3<&0) 2>/dev/null || {
+    stdin=closed
+    exec </dev/null
 }
 
 # Where comments end: as in rune unless it is said.
 comments=crate
+asked=
 
 while [ $# -gt 0 ]; do
     case $1 in
@@ -24,18 +27,49 @@ while [ $# -gt 0 ]; do
         esac
         shift 2
         ;;
-    -*) fail "$1: no such option; there is --comments crate|first" ;;
+    --)
+        shift
+        break
+        ;;
+    -?*)
+        about "$1"
+        case " ${switches-} " in
+        *" $1 "*) asked="$asked $1" ;;
+        *) fail "$1: no such option; $tool --help has them all" ;;
+        esac
+        shift
+        ;;
     *) break ;;
     esac
 done
 
-# Only a proved program is built; one that is older than a source file is built anew, since it may not know the option.
-built() {
-    program=$root/target/bin/$1
-    command -v rt >/dev/null || fail "no rt on the path: unpack the Rattle kit and put the folder of its rt on the path"
-    [ -x "$program" ] && [ -z "$(find "$root/crates" -name '*.rt' -newer "$program" | head -n 1)" ] || (cd "$root" && rt check "$1") >&2 || exit 2
+# A file that can be read, or - for standard input.
+readable() {
+    if [ "$1" = - ]; then
+        [ $stdin = open ] || fail "standard input is closed: name a file"
+    elif [ -d "$1" ]; then
+        fail "$1 is a folder: name a file"
+    elif [ ! -e "$1" ]; then
+        fail "$1: there is no such file"
+    elif [ ! -r "$1" ]; then
+        fail "$1: you have no right to read this file"
+    fi
 }
 
-readable() {
-    [ -f "$1" ] && [ -r "$1" ] || fail "cannot read $1"
+# Runs the program. The digit that it writes to descriptor 3 as its last act is its status; without one it did not come so far.
+run() {
+    { ended=$("$root/bin/run" "$program" "$@" 3>&1 >&4 4>&-); } 4>&1
+    case $ended in
+    0 | 1) return "$ended" ;;
+    *) return 2 ;;
+    esac
+}
+
+# run_on FILE: with the file, or - as it is, as standard input
+run_on() {
+    if [ "$1" = - ]; then
+        run --comments "$comments"
+    else
+        run --comments "$comments" <"$1"
+    fi
 }

@@ -10,6 +10,12 @@ use token::refusal::ILL_FORMED;
 use token::refusal::NO_PLACE;
 use token::refusal::TOO_LONG;
 
+// How much waits to be written now, and whether reading was refused.
+pub struct Printed {
+    pub waiting: usize,
+    pub refused: bool,
+}
+
 fn put_three(out: &mut [u8], waiting: usize, number: u32, start: usize, end: usize) -> usize {
     let mut waiting = put_decimal(out, waiting, number as u64);
     waiting = put(out, waiting, b' ');
@@ -19,19 +25,25 @@ fn put_three(out: &mut [u8], waiting: usize, number: u32, start: usize, end: usi
     put(out, waiting, b'\n')
 }
 
-fn put_refused(out: &mut [u8], waiting: usize, number: u32, start: usize, end: usize) -> usize {
+fn put_refused(out: &mut [u8], waiting: usize, number: u32, start: usize, end: usize) -> Printed {
     let waiting = put_bytes(out, waiting, b"refused ");
-    put_three(out, waiting, number, start, end)
+    Printed {
+        waiting: put_three(out, waiting, number, start, end),
+        refused: true,
+    }
 }
 
-fn put_end(out: &mut [u8], waiting: usize, count: usize) -> usize {
+fn put_end(out: &mut [u8], waiting: usize, count: usize) -> Printed {
     let mut waiting = put_bytes(out, waiting, b"end ");
     waiting = put_decimal(out, waiting, count as u64);
-    put(out, waiting, b'\n')
+    Printed {
+        waiting: put(out, waiting, b'\n'),
+        refused: false,
+    }
 }
 
 // Each token goes past its start, so the bytes left fall.
-fn list_tokens(s: &[u8], reading: Reading, out: &mut [u8], waiting: usize) -> usize {
+fn list_tokens(s: &[u8], reading: Reading, out: &mut [u8], waiting: usize) -> Printed {
     let mut waiting = waiting;
     let mut at: usize = 0;
     let mut count: usize = 0;
@@ -56,7 +68,7 @@ fn list_tokens(s: &[u8], reading: Reading, out: &mut [u8], waiting: usize) -> us
     }
 }
 
-pub fn list(s: &[u8], reading: Reading, out: &mut [u8], waiting: usize) -> usize {
+pub fn list(s: &[u8], reading: Reading, out: &mut [u8], waiting: usize) -> Printed {
     match sound::test_source(s) {
         Tested::Sound => list_tokens(s, reading, out, waiting),
         Tested::TooLong => put_refused(out, waiting, TOO_LONG, 0, 0),

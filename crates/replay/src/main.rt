@@ -49,7 +49,8 @@ fn list_payload(source: &mut [u8], out: &mut [u8], waiting: usize) -> usize {
     let reading = Reading {
         comments: Comments::Crate,
     };
-    printing::list(&source[..got], reading, out, waiting)
+    let printed = printing::list(&source[..got], reading, out, waiting);
+    printed.waiting
 }
 
 fn least(a: usize, b: usize) -> usize

@@ -22,29 +22,26 @@ outline-requires c κs = search needs
 enum-told : tie.Need-enum-told
 enum-told c = search needs
 
-slice-reshare-prefix-write-all : tie.Need-slice-reshare-prefix-write-all
-slice-reshare-prefix-write-all c = search needs
+slice-reshare-prefix-write : tie.Need-slice-reshare-prefix-write
+slice-reshare-prefix-write c = search needs
 
-slice-aggregate-write-all-2 : tie.Need-slice-aggregate-write-all-2
-slice-aggregate-write-all-2 c = let h = sym (length-take-le (length (c .before .before .before .before .before .before .before .before .before .before .args .s .now)) (c .before .before .before .before .before .outline .last .1 .1 .0) (omega (arith, c .before .before .before .before .before .outline .kept .1 .1 .0, c .before .before .before .before .before .before .before .if1 .left))) in search needs
+slice-aggregate-write : tie.Need-slice-aggregate-write
+slice-aggregate-write c = let h = sym (length-take-le (length (c .before .before .before .before .before .before .before .before .before .before .args .s .now)) (c .before .before .before .before .before .outline .last .1 .1 .0) (omega (arith, c .before .before .before .before .before .outline .kept .1 .1 .0, c .before .before .before .before .before .before .before .if1 .left))) in search needs
 
-write-all-requires-2 : tie.Need-write-all-requires-2
-write-all-requires-2 c κs = search needs
+write-requires : tie.Need-write-requires
+write-requires c κs = search needs
 
 enum-known-refusal : tie.Need-enum-known-refusal
 enum-known-refusal c = search needs
 
-slice-reshare-prefix-write-all-2 : tie.Need-slice-reshare-prefix-write-all-2
-slice-reshare-prefix-write-all-2 c = search needs
+slice-reshare-prefix-write-2 : tie.Need-slice-reshare-prefix-write-2
+slice-reshare-prefix-write-2 c = search needs
 
-slice-aggregate-write-all-3 : tie.Need-slice-aggregate-write-all-3
-slice-aggregate-write-all-3 c = let h = sym (length-take-le (length (c .before .before .before .before .before .before .before .before .before .before .before .before .before .args .s .now)) (c .before .before .before .before .before .before .before .before .outline .last .1 .1 .0) (omega (arith, c .before .before .before .before .before .before .before .before .outline .kept .1 .1 .0, c .before .before .before .before .before .before .before .before .before .before .if1 .left))) in search needs
+slice-aggregate-write-2 : tie.Need-slice-aggregate-write-2
+slice-aggregate-write-2 c = let h = sym (length-take-le (length (c .before .before .before .before .before .before .before .before .before .before .before .before .before .args .s .now)) (c .before .before .before .before .before .before .before .before .outline .last .1 .1 .0) (omega (arith, c .before .before .before .before .before .before .before .before .outline .kept .1 .1 .0, c .before .before .before .before .before .before .before .before .before .before .if1 .left))) in search needs
 
-write-all-requires-3 : tie.Need-write-all-requires-3
-write-all-requires-3 c κs = search needs
-
-say-requires : tie.Need-say-requires
-say-requires c κs = search needs
+write-requires-2 : tie.Need-write-requires-2
+write-requires-2 c κs = search needs
 
 same-length : tie.Need-same-length
 same-length c = search needs
@@ -52,11 +49,26 @@ same-length c = search needs
 returns-2 : tie.Need-returns-2
 returns-2 c = search needs
 
+say-requires : tie.Need-say-requires
+say-requires c κs = search needs
+
 same-length-2 : tie.Need-same-length-2
 same-length-2 c = search needs
 
 returns-3 : tie.Need-returns-3
 returns-3 c = search needs
+
+same-length-3 : tie.Need-same-length-3
+same-length-3 c = search needs
+
+returns-4 : tie.Need-returns-4
+returns-4 c = search needs
+
+same-length-4 : tie.Need-same-length-4
+same-length-4 c = search needs
+
+returns-5 : tie.Need-returns-5
+returns-5 c = search needs
 
 pub print-spec : {M : Type 1} → statement M
 print-spec =
@@ -67,15 +79,19 @@ print-spec =
     returns
     outline-requires
     enum-told
-    slice-reshare-prefix-write-all
-    slice-aggregate-write-all-2
-    write-all-requires-2
+    slice-reshare-prefix-write
+    slice-aggregate-write
+    write-requires
     enum-known-refusal
-    slice-reshare-prefix-write-all-2
-    slice-aggregate-write-all-3
-    write-all-requires-3
-    say-requires
+    slice-reshare-prefix-write-2
+    slice-aggregate-write-2
+    write-requires-2
     same-length
     returns-2
+    say-requires
     same-length-2
-    returns-3)
+    returns-3
+    same-length-3
+    returns-4
+    same-length-4
+    returns-5)

@@ -1,0 +1,63 @@
+-- What was read lies inside the source. Assumes nothing.
+use native.Mathlib.Omega.{arith}
+use borrow.Author.Needs.{needs}
+use Rattle.buffer.proofs.Fit.{count-fits}
+use Rattle.outliner.proofs.read_and_print.Statement.{statement}
+use Rattle.outliner.proofs.read_and_print.Tie as tie
+
+slice-aggregate-fill : tie.Need-slice-aggregate-fill
+slice-aggregate-fill c = search needs
+
+fill-requires : tie.Need-fill-requires
+fill-requires c κs = search needs
+
+enum-known-count : tie.Need-enum-known-count
+enum-known-count c = search needs
+
+enum-told : tie.Need-enum-told
+enum-told c = search needs
+
+slice-aggregate-fail : tie.Need-slice-aggregate-fail
+slice-aggregate-fail c = search needs
+
+fail-requires : tie.Need-fail-requires
+fail-requires c κs = search needs
+
+returns : tie.Need-returns
+returns c = search needs
+
+large-buffer-requires : tie.Need-large-buffer-requires
+large-buffer-requires c κs = search needs
+
+array-share-prefix-source : tie.Need-array-share-prefix-source
+array-share-prefix-source c = let h = count-fits (c .before .before .before .before .before .fill .result) _ _ (c .before .before .before .before .before .fill .ensures) (c .before .before .count .given .1) in omega arith
+
+slice-aggregate-print : tie.Need-slice-aggregate-print
+slice-aggregate-print c = let h = count-fits (c .before .before .before .before .before .before .fill .result) _ _ (c .before .before .before .before .before .before .fill .ensures) (c .before .before .before .count .given .1) in search needs
+
+slice-aggregate-print-2 : tie.Need-slice-aggregate-print-2
+slice-aggregate-print-2 c = search needs
+
+print-requires : tie.Need-print-requires
+print-requires c κs = search needs
+
+returns-2 : tie.Need-returns-2
+returns-2 c = search needs
+
+pub read-and-print-spec : {M : Type 1} → statement M
+read-and-print-spec =
+    tie.close
+    (tie.spec
+    slice-aggregate-fill
+    fill-requires
+    enum-known-count
+    enum-told
+    slice-aggregate-fail
+    fail-requires
+    returns
+    large-buffer-requires
+    array-share-prefix-source
+    slice-aggregate-print
+    slice-aggregate-print-2
+    print-requires
+    returns-2)
