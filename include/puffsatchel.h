@@ -261,7 +261,7 @@ uint32_t puffsatchel_load(const uint8_t *bytes, size_t bytes_len, uint32_t *out,
 
 /* The lookahead over a token list: the state, which the caller keeps and lends to each call together with the list, always the same one.
  * A fresh state is zero but for keep:
- *     puffsatchel_ahead state = PUFFSATCHEL_AHEAD_KEEP;      white space is emitted with the token behind it
+ *     puffsatchel_ahead state = PUFFSATCHEL_AHEAD_KEEP;      white space is emitted with the token after it
  *     puffsatchel_ahead state = PUFFSATCHEL_AHEAD_DROP;      white space is dropped
  * White space is the kinds 1 to 4. Whatever bytes a state holds, each call answers, and refuses with 34 a state
  * that cannot be this list's. */
@@ -314,7 +314,7 @@ uint32_t puffsatchel_is_eof(puffsatchel_ahead *state, uint32_t tested, const uin
 /* Emits the white space before the next token, or before the list's end; start and end are a point there. */
 uint32_t puffsatchel_flush_ws(puffsatchel_ahead *state, uint32_t tested, const uint32_t *list, size_t list_len, uint32_t *out, size_t out_len, puffsatchel_answer *answer);
 
-/* Emits the next token behind the white space before it, and gives its kind and span; at the end an end-of-file token, each time. */
+/* Emits the white space before the next token and then the token, and gives its kind and span; at the end an end-of-file token, each time. */
 uint32_t puffsatchel_bump(puffsatchel_ahead *state, uint32_t tested, const uint32_t *list, size_t list_len, uint32_t *out, size_t out_len, puffsatchel_answer *answer);
 
 /* Does so if the next token is of the kind: value is 1 then, else 0. */
@@ -323,7 +323,7 @@ uint32_t puffsatchel_bump_if(puffsatchel_ahead *state, uint32_t tested, uint32_t
 /* Does so as long as the next token is of the kind: value is 1 if any was. For kind 67 at the end, where it would never stop, 33. */
 uint32_t puffsatchel_bump_while(puffsatchel_ahead *state, uint32_t tested, uint32_t kind, const uint32_t *list, size_t list_len, uint32_t *out, size_t out_len, puffsatchel_answer *answer);
 
-/* Emits n tokens that are held, each behind the white space before it, and reads none. 32 (and not 31) where fewer are held. */
+/* Emits n tokens that are held, each after the white space before it, and reads none. 32 (and not 31) where fewer are held. */
 uint32_t puffsatchel_advance(puffsatchel_ahead *state, uint32_t tested, size_t n, const uint32_t *list, size_t list_len, uint32_t *out, size_t out_len, puffsatchel_answer *answer);
 
 /* Writes the next n tokens and emits none of them: they stay. 30 where n is above 8. */

@@ -1,4 +1,4 @@
-// The reading that the arguments of a program name. What two words name equals its definition in specs/; what the program was started with no contract says.
+// The reading that the arguments of a program name. What two words name equals its definition in specs/; no contract says what the program was started with.
 use readers::Chosen;
 use readers::Comments;
 use readers::Reading;

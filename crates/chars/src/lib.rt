@@ -1,4 +1,4 @@
-// A char or a label, from behind the `'` on.
+// A char or a label, from after the `'` on.
 use text::Scalar;
 use token::Kind;
 use token::Read;

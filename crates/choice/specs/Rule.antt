@@ -19,7 +19,7 @@ abbrev pub nextIs : ℕ → List ℕ → Bool
 nextIs c [] = false
 nextIs c (v ∷ cs) = eqb v c
 
--- a reader, from behind the first of the scalars on
+-- a reader, from after the first of the scalars on
 abbrev pub behindOne : Rules → (List ℕ → ℕ → Read) → List ℕ → ℕ → Read
 behindOne R f [] p = f [] p
 behindOne R f (v ∷ cs) p = f cs (p + R .wide v)
@@ -28,11 +28,11 @@ abbrev pub foundOr : Operator → ℕ → Read → Read
 foundOr (Found k e) a r = gotOf k a e
 foundOr Nothing a r = r
 
--- how a template is read: where it starts, the scalars behind its backtick, and their place
+-- how a template is read: where it starts, the scalars after its backtick, and their place
 abbrev pub Deep : Type 0
 Deep = ℕ → List ℕ → ℕ → Read
 
--- the scalar v stands at a; behind it stand the scalars cs, from p on. Words, numbers, char or label, template, and 18 where no rule fits
+-- the scalar v stands at a, and after it the scalars cs, from p on. Words, numbers, char or label, template, and 18 where no rule fits
 unfoldable pub leftOf : Rules → Deep → ℕ → ℕ → List ℕ → ℕ → Read
 leftOf R t v a cs p =
     pick (startsWord R v) (wordOf (R .wide) (R .continue) v a cs p)

@@ -38,7 +38,7 @@ fn read_other(s: &[u8], value: u32, start: usize, at: usize) -> Read
     token::got(kind, start, end)
 }
 
-// `read_other` has one call, at the end: so the compiler inlines it, and the answer for an operator or a word is not copied once more.
+// `read_other` is called once, at the end: so the compiler inlines it, and the answer for an operator or a word is not copied once more.
 pub fn read_first(s: &[u8], reading: Reading, value: u32, start: usize, at: usize) -> Read
     ensures { λ r. ⌜ r ≡ firstOf (rulesOf reading) noTemplate value start (rest (now (s .entry)) at) at ⌝ }
 {

@@ -38,7 +38,7 @@ unfoldable pub AllScalar : List ℕ → Type 0
 AllScalar [] = Unit {0}
 AllScalar (v ∷ cs) = (isScalar v ≡ true) × AllScalar cs
 
--- up to four bytes as `encode` gives them: how many, and behind them 0
+-- up to four bytes as `encode` gives them: how many, and 0 after them
 abbrev pub padded : List ℕ → Encoded
 padded l = record { len = length l; bytes = take 4 (l ++ replicate 4 0) }
 

@@ -1,4 +1,4 @@
--- Document 01, "Escapes": what the scalars behind a backslash give, one rule each. The first of them stands at p; an answer has the place after the last one read.
+-- Document 01, "Escapes": what the scalars after a backslash give, one rule each. The first of them stands at p; an answer has the place after the last one read.
 use Prim.Native.Nat.{ℕ, _+_, _*_, _%_}
 use mathlib.Core.List.{List, [], _∷_}
 use mathlib.Core.Bool.{Bool, true, false}
@@ -11,12 +11,12 @@ use Rattle.escapes.specs.declared.Escape.the-variants.{Bad, Item, Skippe
 use Rattle.laws.specs.Bools.{both, pick}
 use Rattle.text.specs.Utf8.{width}
 
--- backslash then LF or CR skips following White_Space: the place of the first scalar that is none
+-- after a backslash and a line end, LF or CR, White_Space is passed over: the place of the first scalar that is none
 unfoldable pub skipOf : List ℕ → ℕ → ℕ
 skipOf [] p = p
 skipOf (v ∷ cs) p = elim (isWhiteSpace v) [ true ↦ skipOf cs (p + width v) | false ↦ p ]
 
--- .. in the text, template and byte-text bodies, and else it is no escape: 20
+-- .. in text, a template and byte text; in a char and a byte it is no escape: 20
 abbrev pub lineEnd : Bool → List ℕ → ℕ → Escape
 lineEnd lines cs p = pick lines (Skipped (skipOf cs p)) (Bad 20 p)
 
@@ -50,11 +50,11 @@ lowOnly (Bad n p) = Bad n p
 abbrev pub shiftIn : ℕ → ℕ → ℕ
 shiftIn x v = x * 16 % 0x100000000 + hexValue v
 
--- a Unicode scalar is accepted, behind one or more digits: else 22
+-- after one digit or more a Unicode scalar is accepted: else 22
 abbrev pub closeOf : Bool → ℕ → ℕ → Escape
 closeOf some x p = pick (both some (isScalar x)) (Item x p) (Bad 22 p)
 
--- \u{..} behind the brace, with the number x so far; 22 at what is neither a hex digit nor `}`, or at the end
+-- \u{..} after the brace, with the number x so far; 22 at what is neither a hex digit nor `}`, or at the end
 unfoldable pub digitsOf : Bool → ℕ → List ℕ → ℕ → Escape
 digitsOf some x [] p = Bad 22 p
 digitsOf some x (v ∷ cs) p =
@@ -71,7 +71,7 @@ unicodeOf (v ∷ cs) p = pick (eqb v 0x7b) (digitsOf false 0 cs (p + width v)) (
 abbrev pub templateOf : Bool → ℕ → ℕ → Escape
 templateOf template v p = pick template (Item v p) (Bad 20 p)
 
--- the scalar v behind the backslash, and the scalars cs behind it: in bytes, where \u is 21 ..
+-- the scalar v after the backslash, and the scalars cs after it: in bytes, where \u is 21 ..
 unfoldable pub byteTurn : Bool → ℕ → List ℕ → ℕ → Escape
 byteTurn lines v cs p =
     pick (eqb v 0x0a) (lineEnd lines cs p)

@@ -1,4 +1,4 @@
-// What stands behind a backslash. The names and the order are those of the Rust's unescape.rs.
+// What a backslash and the scalars after it give. The names and the order are those of the Rust's unescape.rs.
 use text::Scalar;
 use token::refusal::BAD_BYTE_ESCAPE;
 use token::refusal::BAD_ESCAPE_SEQUENCE;
@@ -33,7 +33,7 @@ fn skip_white(s: &[u8], at: usize) -> usize
     }
 }
 
-// A line end behind the backslash, where the form goes on in the next line.
+// A line end after the backslash, where the form goes on in the next line.
 fn line_end(s: &[u8], at: usize, lines: bool) -> Escape
     ensures { λ r. ⌜ r ≡ lineEnd lines (rest (now (s .entry)) at) at ⌝ }
 {
@@ -158,7 +158,7 @@ fn parse_hex_escape(s: &[u8], at: usize) -> Escape
     hex_second(s, next, digits::hex_value(value))
 }
 
-// The second digit, behind one that stands for x.
+// The second digit, after one that stands for x.
 fn hex_second(s: &[u8], at: usize, x: u32) -> Escape
     requires { ⌜ x < 16 ⌝ }
     ensures { λ r. ⌜ r ≡ hexSecond x (rest (now (s .entry)) at) at ⌝ }
@@ -199,7 +199,7 @@ fn parse_unicode_escape(s: &[u8], at: usize) -> Escape
     unicode_digits(s, next)
 }
 
-// The number x behind its digits, of which there was one or not.
+// The number x after its digits; `some` says whether there was one.
 fn unicode_close(some: bool, x: u32, next: usize) -> Escape
     ensures { λ r. ⌜ r ≡ closeOf some x next ⌝ }
 {

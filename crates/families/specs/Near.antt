@@ -1,4 +1,4 @@
--- What may stand behind a token for it to be read the same.
+-- What may follow a token for it to be read the same.
 use Prim.Native.Nat.{ℕ}
 use mathlib.Core.Path.{_≡_}
 use mathlib.Core.List.{List, [], _∷_, _++_}
@@ -14,13 +14,13 @@ Head [] (w ∷ y) = ⊥
 Head (v ∷ x) [] = ⊥
 Head (v ∷ x) (w ∷ y) = v ≡ w
 
--- alike as far as any reader looks: one scalar, and behind a `.` one more
+-- alike as far as any reader looks: one scalar, and after a `.` one more
 abbrev pub Near : List ℕ → List ℕ → Type 0
 Near [] [] = Unit
 Near [] (w ∷ y) = ⊥
 Near (v ∷ x) [] = ⊥
 Near (v ∷ x) (w ∷ y) = (v ≡ w) × (v ≡ 46 → Head x y)
 
--- a reader whose answer stays the same with other scalars behind the place that it reached, if they are near
+-- a reader whose answer stays the same with other scalars after the place that it reached, if they are near
 abbrev pub Local : Rules → (List ℕ → ℕ → Read) → Type 0
 Local R next = (f x y : List ℕ) (p : ℕ) → reachedOf (next (f ++ x) p) ≡ placeAfter (R .wide) f p → Near x y → next (f ++ y) p ≡ next (f ++ x) p

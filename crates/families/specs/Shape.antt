@@ -1,4 +1,4 @@
--- What a token with an inside looks like: a mark before the inside, the inside, a mark behind it, and what may follow.
+-- What a token with an inside looks like: a mark before the inside, the inside, a mark after it, and what may follow.
 use Prim.Native.Nat.{ℕ, _≤_}
 use mathlib.Core.Path.{_≡_}
 use mathlib.Core.List.{List, [], _∷_, _++_}
@@ -49,7 +49,7 @@ abbrev pub LineEnd : List ℕ → Type 0
 LineEnd [] = Unit
 LineEnd (v ∷ x) = v ≡ 10
 
--- what else holds of the inside mid and of the scalars back behind the token, where n scalars are passed over after `/*`
+-- what else holds of the inside `mid` and of the scalars `back` after the token, where n scalars are passed over after `/*`
 abbrev pub Fits : ℕ → Form → List ℕ → List ℕ → Type 0
 Fits n lineForm mid back = LineEnd back
 Fits n (commentForm true) mid back = n ≤ length mid
@@ -84,6 +84,6 @@ plainForm (templateForm c) = templateForm c
 abbrev pub xs : ℕ → List ℕ
 xs j = replicate j 120
 
--- a token's scalars with as many x as its inside takes places, and y behind them
+-- a token's scalars with as many x as its inside takes places, and y after them
 abbrev pub painted : Rules → Form → List ℕ → List ℕ → List ℕ
 painted R form mid y = openMark form ++ (xs (placeAfter (R .wide) mid 0) ++ (closeMark form ++ y))

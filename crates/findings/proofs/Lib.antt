@@ -1,3 +1,5 @@
 pub mod Readings
 pub mod Stores
 pub mod Turns
+pub mod InStep
+pub mod Shown

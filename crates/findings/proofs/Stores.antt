@@ -8,7 +8,7 @@ use lib.Dec.{ltb}
 use lib.Seq.{length-sets, sets}
 use lib.ListN.{length, set}
 use borrow.Author.Tests.{le-ltb, lt-ltb, ltb-false}
-use Rattle.findings.specs.Findings.{answerOf, listed, noRoom, recordOf, wordsOf}
+use Rattle.findings.specs.Findings.{answerFound, listed, noRoomFor, recordOf, wordsFound}
 use Rattle.findings.specs.Notes.{notedOf}
 use Rattle.findings.specs.declared.store.Finding.{Finding}
 use Rattle.findings.specs.declared.store.Noted.{Noted}
@@ -31,54 +31,54 @@ put-five out n a b c d e =
 
 module _ (out : List ℕ) (n count : ℕ) (x : Spotted) where
   abbrev pub Note : Noted → List ℕ → Type 0
-  Note r o = (r ≡ notedOf (length out) n count x) × (o ≡ sets out n (wordsOf (listed x) (length out - n)))
+  Note r o = (r ≡ notedOf (length out) n count x) × (o ≡ sets out n (wordsFound (listed x) (length out - n)))
 
   pub note-none : x ≡ Nothing → Note (Went n count) out
-  unfolding wordsOf notedOf
-  note-none e = rw (e, notedOf, wordsOf) (refl, refl)
+  unfolding wordsFound notedOf
+  note-none e = rw (e, notedOf, wordsFound) (refl, refl)
 
   module _ (f : Finding) (e : x ≡ One f) where
-    pub note-full : (l : Listed) → l ≡ Stopped count (noRoom f) → length out - n < 5 → Note (Full l) out
-    unfolding wordsOf notedOf
-    note-full l i h = rw (e, i, lt-ltb (length out - n) 5 h, wordsOf, notedOf) (refl, refl)
+    pub note-full : (l : Listed) → l ≡ Stopped count (noRoomFor f) → length out - n < 5 → Note (Full l) out
+    unfolding wordsFound notedOf
+    note-full l i h = rw (e, i, lt-ltb (length out - n) 5 h, wordsFound, notedOf) (refl, refl)
 
     pub note-went : (o : List ℕ) → o ≡ sets out n (recordOf f []) → 5 ≤ length out - n → Note (Went (n + 5) (count + 1)) o
-    unfolding wordsOf notedOf
-    note-went o i h = rw (e, i, le-ltb (length out - n) 5 h, wordsOf, notedOf) (refl, refl)
+    unfolding wordsFound notedOf
+    note-went o i h = rw (e, i, le-ltb (length out - n) 5 h, wordsFound, notedOf) (refl, refl)
 
 -- of all that is to be found, fs is left; out, of which n words are taken by count findings, holds what came before
 pub record Left (all : List Finding) (close : ℕ → Listed) (out₀ : List ℕ) (n₀ c₀ : ℕ) (fs : List Finding) (out : List ℕ) (n count : ℕ) : Type 0 where
-  pub answers : answerOf fs close (length out - n) count ≡ answerOf all close (length out₀ - n₀) c₀
-  pub stores : sets out n (wordsOf fs (length out - n)) ≡ sets out₀ n₀ (wordsOf all (length out₀ - n₀))
+  pub answers : answerFound fs close (length out - n) count ≡ answerFound all close (length out₀ - n₀) c₀
+  pub stores : sets out n (wordsFound fs (length out - n)) ≡ sets out₀ n₀ (wordsFound all (length out₀ - n₀))
   pub in-store : n ≤ length out
   pub few : count ≤ n
   pub same : length out ≡ length out₀
 
 module _ (all : List Finding) (close : ℕ → Listed) (out₀ : List ℕ) (n₀ c₀ : ℕ) where
   abbrev pub Done : Listed → List ℕ → Type 0
-  Done l o = (l ≡ answerOf all close (length out₀ - n₀) c₀) × (o ≡ sets out₀ n₀ (wordsOf all (length out₀ - n₀)))
+  Done l o = (l ≡ answerFound all close (length out₀ - n₀) c₀) × (o ≡ sets out₀ n₀ (wordsFound all (length out₀ - n₀)))
 
   pub left-first : n₀ ≤ length out₀ → c₀ ≤ n₀ → Left all close out₀ n₀ c₀ all out₀ n₀ c₀
   left-first h f = record { answers = refl; stores = refl; in-store = h; few = f; same = refl }
 
   module _ (out : List ℕ) (n count : ℕ) where
     pub left-done : (fs : List Finding) → Left all close out₀ n₀ c₀ fs out n count → fs ≡ [] → Done (close count) out
-    unfolding answerOf wordsOf
+    unfolding answerFound wordsFound
     left-done fs h e = let k = (rw e at h) in (k .answers, k .stores)
 
     one-more : (f : Finding) (fs : List Finding) → Left all close out₀ n₀ c₀ (f ∷ fs) out n count → ltb (length out - n) 5 ≡ false → Left all close out₀ n₀ c₀ fs (sets out n (recordOf f [])) (n + 5) (count + 1)
-    unfolding answerOf wordsOf
+    unfolding answerFound wordsFound
     one-more f fs h t =
         let l = ltb-false (length out - n) 5 t in
         let len = length-sets out n (recordOf f []) in
         let i = h .in-store in
         let c = h .few in
         let left : length (sets out n (recordOf f [])) - (n + 5) ≡ length out - n - 5 = omega arith in
-        let words : wordsOf (f ∷ fs) (length out - n) ≡ recordOf f (wordsOf fs (length out - n - 5)) = rw (t, wordsOf) refl in
+        let words : wordsFound (f ∷ fs) (length out - n) ≡ recordOf f (wordsFound fs (length out - n - 5)) = rw (t, wordsFound) refl in
         record {
-          answers = ap (λ (m : ℕ). answerOf fs close m (count + 1)) left ∙ sym (rw (t, answerOf) refl) ∙ h .answers;
+          answers = ap (λ (m : ℕ). answerFound fs close m (count + 1)) left ∙ sym (rw (t, answerFound) refl) ∙ h .answers;
           stores =
-              ap (λ (m : ℕ). sets (sets out n (recordOf f [])) (n + 5) (wordsOf fs m)) left ∙ sets-append out (recordOf f []) (wordsOf fs (length out - n - 5)) n (n + 5) refl
+              ap (λ (m : ℕ). sets (sets out n (recordOf f [])) (n + 5) (wordsFound fs m)) left ∙ sets-append out (recordOf f []) (wordsFound fs (length out - n - 5)) n (n + 5) refl
               ∙ ap (sets out n) (sym words) ∙ h .stores;
           in-store = omega arith;
           few = omega arith;
@@ -88,31 +88,31 @@ module _ (all : List Finding) (close : ℕ → Listed) (out₀ : List ℕ) (n₀
     -- one more, or none, was noted
     module _ (fs : List Finding) (o : List ℕ) (r : Noted) where
       pub left-went : (x : Spotted) → Left all close out₀ n₀ c₀ (listed x ++ fs) out n count → Note out n count x r o → (m d : ℕ) → r ≡ Went m d → Left all close out₀ n₀ c₀ fs o m d
-      unfolding answerOf wordsOf notedOf
+      unfolding answerFound wordsFound notedOf
       left-went Nothing h w m d e =
           let z : Went m d ≡ Went n count = sym e ∙ w .0 in
           let em : m ≡ n = cc in
           let ed : d ≡ count = cc in
           rw (em, ed, w .1) h
       left-went (One f) h w m d e =
-          split (ltb (length out - n) 5) (λ t. never (let z : Went m d ≡ Full (Stopped count (noRoom f)) = sym e ∙ w .0 ∙ rw (t, notedOf) refl in cc))
+          split (ltb (length out - n) 5) (λ t. never (let z : Went m d ≡ Full (Stopped count (noRoomFor f)) = sym e ∙ w .0 ∙ rw (t, notedOf) refl in cc))
           (λ t.
           let z : Went m d ≡ Went (n + 5) (count + 1) = sym e ∙ w .0 ∙ rw (t, notedOf) refl in
           let em : m ≡ n + 5 = cc in
           let ed : d ≡ count + 1 = cc in
-          let eo : o ≡ sets out n (recordOf f []) = w .1 ∙ rw (t, wordsOf) refl in
+          let eo : o ≡ sets out n (recordOf f []) = w .1 ∙ rw (t, wordsFound) refl in
           rw (em, ed, eo) (one-more f fs h t))
 
       pub left-full : (x : Spotted) → Left all close out₀ n₀ c₀ (listed x ++ fs) out n count → Note out n count x r o → (l : Listed) → r ≡ Full l → Done l o
-      unfolding answerOf wordsOf notedOf
+      unfolding answerFound wordsFound notedOf
       left-full Nothing h w l e = never (let z : Full l ≡ Went n count = sym e ∙ w .0 in cc)
       left-full (One f) h w l e =
           split (ltb (length out - n) 5)
           (λ t.
-          let z : Full l ≡ Full (Stopped count (noRoom f)) = sym e ∙ w .0 ∙ rw (t, notedOf) refl in
-          let el : l ≡ Stopped count (noRoom f) = cc in
-          let eo : o ≡ out = w .1 ∙ rw (t, wordsOf) refl in
-          let a = (rw (t, answerOf) at (h .answers)) in
-          let b = (rw (t, wordsOf) at (h .stores)) in
+          let z : Full l ≡ Full (Stopped count (noRoomFor f)) = sym e ∙ w .0 ∙ rw (t, notedOf) refl in
+          let el : l ≡ Stopped count (noRoomFor f) = cc in
+          let eo : o ≡ out = w .1 ∙ rw (t, wordsFound) refl in
+          let a = (rw (t, answerFound) at (h .answers)) in
+          let b = (rw (t, wordsFound) at (h .stores)) in
           (el ∙ a, eo ∙ b))
           (λ t. never (let z : Full l ≡ Went (n + 5) (count + 1) = sym e ∙ w .0 ∙ rw (t, notedOf) refl in cc))

@@ -9,7 +9,7 @@ use lib.Seq.{sets}
 use lib.ListN.{length}
 use Rattle.findings.proofs.Readings.{head-next}
 use Rattle.findings.proofs.Stores.{Done, Left, Note, left-done, left-first, left-full, left-went}
-use Rattle.findings.specs.Findings.{across, alike, alone, answerOf, asCode, endsAs, findingsOf, foundOf, fromOf, headOf, isBlank, isComment, listed, markOf, onward, recordsOf, runsOn, underFirst, walk, walkAt, wordsOf}
+use Rattle.findings.specs.Findings.{across, alike, alone, answerFound, asCode, endsAs, findingsOf, foundOf, fromOf, headOf, isBlank, isComment, listed, markOf, onward, recordsOf, runsOn, underFirst, walk, walkAt, wordsFound}
 use Rattle.findings.specs.Notes.{AllSmall, Small}
 use Rattle.findings.specs.declared.store.Finding.{Finding}
 use Rattle.findings.specs.declared.store.Noted.{Noted}
@@ -35,7 +35,7 @@ use Rattle.token.specs.declared.read.Refusal.{Refusal}
 use Rattle.token.specs.declared.read.Token.{Token}
 use Rattle.tokens.proofs.Cover.{by-read}
 use Rattle.tokens.proofs.Starred.{reads}
-use Rattle.tokens.proofs.Steps.{reached-room, refused-past, tokens-fin, tokens-halt, tokens-more, tokens-past, tokens-room}
+use Rattle.tokens.proofs.Steps.{reached-within, refused-past, tokens-fin, tokens-halt, tokens-more, tokens-past, tokens-room}
 use Rattle.tokens.specs.Tokens.{tokensAt}
 
 -- places are small where the source is
@@ -72,6 +72,19 @@ mark-small (v ∷ cs) = split (eqb v 0xFEFF) (λ e. rw e (omega arith, omega ari
 abbrev pub afterOf : Reading → List ℕ → ℕ → ℕ → Read → List Finding
 afterOf g s p q (Refused r) = []
 afterOf g s p q (Got k) = listed (alone p k) ++ walkAt g s (k .span .end) q
+
+-- a is read at `at`, and under First, where the walk stands at q, the token over `at` stands at p, and is c
+module _ (g : Reading) (s : List ℕ) (at q : ℕ) (a : Read) (ea : a ≡ nextAt g s at) (z : reachedOf a ≡ at → ⊥) (p : ℕ) (c : Read) (ec : c ≡ nextAt (underFirst g) s p)
+    (eo : onward at q (tokensAt (rulesOf (underFirst g)) s q) ≡ fromOf (underFirst g) s p) where
+  beside : headOf (onward at q (tokensAt (rulesOf (underFirst g)) s q) .place) (onward at q (tokensAt (rulesOf (underFirst g)) s q) .list) ≡ c
+  beside = rw eo (head-next (underFirst g) s p ∙ sym ec)
+
+  pub walk-turn : walkAt g s at q ≡ listed (across g s at a p c) ++ afterOf g s at p a
+  unfolding walkAt walk
+  walk-turn =
+      by-read a
+      (λ k e. rw (tokens-more g s at a ea k e (λ i. z (ap reachedOf e ∙ i)), walk) (rw (beside, eo, e) refl))
+      (λ k e. rw (tokens-halt g s at a ea k e, walk) (rw (beside, eo, e) (sym (append-nil (listed (across g s at (Refused k) p c))))))
 
 -- the walk so far: what is left to find from `at` on, where under First the last token that was read stands at q
 pub record Walked (g : Reading) (s out₀ : List ℕ) (n₀ c₀ : ℕ) (out : List ℕ) (n count at q : ℕ) (b : Read) : Type 0 where
@@ -110,24 +123,14 @@ module _ (g : Reading) (s out₀ : List ℕ) (n₀ c₀ : ℕ) (out : List ℕ) 
     pub turn-small : length s ≤ 65536 → AllSmall (across g s at a p c)
     turn-small l =
         let i = h .inside in
-        let x = reached-room g s at a ea i in
-        let y = reached-room (underFirst g) s p c ec hp in
+        let x = reached-within g s at a ea i in
+        let y = reached-within (underFirst g) s p c ec hp in
         across-small at (reachedOf a) p (reachedOf c) (omega arith) (omega arith) (omega arith) (omega arith) g s a c refl refl
-
-    beside : headOf (onward at q (tokensAt (rulesOf (underFirst g)) s q) .place) (onward at q (tokensAt (rulesOf (underFirst g)) s q) .list) ≡ c
-    beside = rw eo (head-next (underFirst g) s p ∙ sym ec)
-
-    pub walk-turn : walkAt g s at q ≡ listed (across g s at a p c) ++ afterOf g s at p a
-    unfolding walkAt walk
-    walk-turn =
-        by-read a
-        (λ k e. rw (tokens-more g s at a ea k e (λ i. z (ap reachedOf e ∙ i)), walk) (rw (beside, eo, e) refl))
-        (λ k e. rw (tokens-halt g s at a ea k e, walk) (rw (beside, eo, e) (sym (append-nil (listed (across g s at (Refused k) p c))))))
 
     -- what is spotted by the side of First was noted, and answered r; the store is then o
     module _ (x : Spotted) (ex : x ≡ across g s at a p c) (o : List ℕ) (r : Noted) (w : Note out n count x r o) where
       spotted : Left All Close out₀ n₀ c₀ (listed x ++ afterOf g s at p a) out n count
-      spotted = rw ex (rw (← walk-turn) (h .left))
+      spotted = rw ex (rw (← walk-turn g s at q a ea z p c ec eo) (h .left))
 
       pub turn-full : (l : Listed) → r ≡ Full l → Done All Close out₀ n₀ c₀ l o
       turn-full = left-full All Close out₀ n₀ c₀ out n count (afterOf g s at p a) o r x spotted w
@@ -178,12 +181,12 @@ module _ (g : Reading) (s out₀ : List ℕ) (n₀ c₀ : ℕ) (out : List ℕ) 
 -- the mark at the start comes before the walk
 module _ (g : Reading) (s out : List ℕ) where
   abbrev Found : Listed → List ℕ → Type 0
-  Found l o = (l ≡ answerOf (foundOf g s) (endsAs (tokensAt (rulesOf g) s 0)) (length out) 0) × (o ≡ sets out 0 (wordsOf (foundOf g s) (length out)))
+  Found l o = (l ≡ answerFound (foundOf g s) (endsAs (tokensAt (rulesOf g) s 0)) (length out) 0) × (o ≡ sets out 0 (wordsFound (foundOf g s) (length out)))
 
   found-all : (l : Listed) (o : List ℕ) → Done (foundOf g s) (endsAs (tokensAt (rulesOf g) s 0)) out 0 0 l o → Found l o
   found-all l o h =
       let z : length out - 0 ≡ length out = omega arith in
-      (h .0 ∙ ap (λ (k : ℕ). answerOf (foundOf g s) (endsAs (tokensAt (rulesOf g) s 0)) k 0) z, h .1 ∙ ap (λ (k : ℕ). sets out 0 (wordsOf (foundOf g s) k)) z)
+      (h .0 ∙ ap (λ (k : ℕ). answerFound (foundOf g s) (endsAs (tokensAt (rulesOf g) s 0)) k 0) z, h .1 ∙ ap (λ (k : ℕ). sets out 0 (wordsFound (foundOf g s) k)) z)
 
   module _ (x : Spotted) (ex : x ≡ markOf (rest s 0)) (o : List ℕ) (r : Noted) (w : Note out 0 0 x r o) where
     first : Left (foundOf g s) (endsAs (tokensAt (rulesOf g) s 0)) out 0 0 (listed x ++ walkAt g s 0 0) out 0 0
@@ -201,8 +204,8 @@ module _ (g : Reading) (s out : List ℕ) where
       all-then l o′ h = found-all l o′ (h .0 ∙ all-went .answers, h .1 ∙ all-went .stores)
 
 -- the tests before, and the whole
-pub by-test : (g : Reading) (s : List ℕ) (room : ℕ) (t : Tested) → t ≡ sourceTest s
-    → (findingsOf g s room ≡ elim t [ Sound ↦ answerOf (foundOf g s) (endsAs (tokensAt (rulesOf g) s 0)) room 0 | TooLong ↦ Stopped 0 (pointRefusal 1 0) | IllFormed p ↦ Stopped 0 (pointRefusal 2 p) | Misplaced p ↦ Stopped 0 (pointRefusal 4 p) ])
-    × (recordsOf g s room ≡ elim t [ Sound ↦ wordsOf (foundOf g s) room | TooLong ↦ [] | IllFormed p ↦ [] | Misplaced p ↦ [] ])
+pub found-by-test : (g : Reading) (s : List ℕ) (room : ℕ) (t : Tested) → t ≡ sourceTest s
+    → (findingsOf g s room ≡ elim t [ Sound ↦ answerFound (foundOf g s) (endsAs (tokensAt (rulesOf g) s 0)) room 0 | TooLong ↦ Stopped 0 (pointRefusal 1 0) | IllFormed p ↦ Stopped 0 (pointRefusal 2 p) | Misplaced p ↦ Stopped 0 (pointRefusal 4 p) ])
+    × (recordsOf g s room ≡ elim t [ Sound ↦ wordsFound (foundOf g s) room | TooLong ↦ [] | IllFormed p ↦ [] | Misplaced p ↦ [] ])
 unfolding findingsOf recordsOf
-by-test g s room t e = (rw (← e, findingsOf), rw (← e, recordsOf))
+found-by-test g s room t e = (rw (← e, findingsOf), rw (← e, recordsOf))

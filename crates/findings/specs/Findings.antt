@@ -141,32 +141,32 @@ endsAs (halt r) n = Stopped n r
 endsAs (more k ts) n = endsAs ts n
 
 -- 3: the finding for which there was no place
-abbrev pub noRoom : Finding → Refusal
-noRoom f = record { number = 3; span = spanOf (f .start) (f .end); reached = f .end }
+abbrev pub noRoomFor : Finding → Refusal
+noRoomFor f = record { number = 3; span = spanOf (f .start) (f .end); reached = f .end }
 
 -- five words a finding
 abbrev pub recordOf : Finding → List ℕ → List ℕ
 recordOf f ws = f .code ∷ (f .start ∷ (f .end ∷ (f .from ∷ (f .to ∷ ws))))
 
 -- .. of as many as there is room for
-unfoldable pub wordsOf : List Finding → ℕ → List ℕ
-wordsOf [] room = []
-wordsOf (f ∷ fs) room =
+unfoldable pub wordsFound : List Finding → ℕ → List ℕ
+wordsFound [] room = []
+wordsFound (f ∷ fs) room =
     elim (ltb room 5) [
       | true ↦ []
-      | false ↦ recordOf f (wordsOf fs (room - 5))
+      | false ↦ recordOf f (wordsFound fs (room - 5))
     ]
 
 -- the answer, where n findings were stored before and the list in force ends so
-unfoldable pub answerOf : List Finding → (ℕ → Listed) → ℕ → ℕ → Listed
-answerOf [] close room n = close n
-answerOf (f ∷ fs) close room n = elim (ltb room 5) [ true ↦ Stopped n (noRoom f) | false ↦ answerOf fs close (room - 5) (n + 1) ]
+unfoldable pub answerFound : List Finding → (ℕ → Listed) → ℕ → ℕ → Listed
+answerFound [] close room n = close n
+answerFound (f ∷ fs) close room n = elim (ltb room 5) [ true ↦ Stopped n (noRoomFor f) | false ↦ answerFound fs close (room - 5) (n + 1) ]
 
 -- 1 and 2 come first, and store nothing
 unfoldable pub findingsOf : Reading → List ℕ → ℕ → Listed
 findingsOf g s room =
     elim (sourceTest s) [
-      | Sound ↦ answerOf (foundOf g s) (endsAs (tokensAt (rulesOf g) s 0)) room 0
+      | Sound ↦ answerFound (foundOf g s) (endsAs (tokensAt (rulesOf g) s 0)) room 0
       | TooLong ↦ Stopped 0 (pointRefusal 1 0)
       | IllFormed p ↦ Stopped 0 (pointRefusal 2 p)
       | Misplaced p ↦ Stopped 0 (pointRefusal 4 p)
@@ -175,7 +175,7 @@ findingsOf g s room =
 unfoldable pub recordsOf : Reading → List ℕ → ℕ → List ℕ
 recordsOf g s room =
     elim (sourceTest s) [
-      | Sound ↦ wordsOf (foundOf g s) room
+      | Sound ↦ wordsFound (foundOf g s) room
       | TooLong ↦ []
       | IllFormed p ↦ []
       | Misplaced p ↦ []

@@ -2,7 +2,7 @@
 use Prim.Native.Nat.{ℕ, _+_, _-_, _≤_}
 use mathlib.Core.Bool.{true, false}
 use lib.Dec.{ltb}
-use Rattle.findings.specs.Findings.{noRoom}
+use Rattle.findings.specs.Findings.{noRoomFor}
 use Rattle.findings.specs.declared.store.Finding.{Finding}
 use Rattle.findings.specs.declared.store.Noted.{Noted}
 use Rattle.findings.specs.declared.store.Noted.the-variants.{Full, Went}
@@ -21,4 +21,4 @@ AllSmall Nothing = Unit {0}
 -- a store of so many words, of which n are taken by count findings
 unfoldable pub notedOf : ℕ → ℕ → ℕ → Spotted → Noted
 notedOf len n count Nothing = Went n count
-notedOf len n count (One f) = elim (ltb (len - n) 5) [ true ↦ Full (Stopped count (noRoom f)) | false ↦ Went (n + 5) (count + 1) ]
+notedOf len n count (One f) = elim (ltb (len - n) 5) [ true ↦ Full (Stopped count (noRoomFor f)) | false ↦ Went (n + 5) (count + 1) ]

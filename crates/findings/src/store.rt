@@ -8,7 +8,7 @@ ghost use mathlib.Core.Path.{_≡_};
 ghost use mathlib.Core.List.{[]};
 ghost use lib.Seq.{sets};
 ghost use lib.ListN.{length};
-ghost use Rattle.findings.specs.Findings.{listed, noRoom, recordOf, wordsOf};
+ghost use Rattle.findings.specs.Findings.{listed, noRoomFor, recordOf, wordsFound};
 ghost use Rattle.findings.specs.Notes.{AllSmall, Small, notedOf};
 ghost use Rattle.listing.specs.declared.Listed.the-variants.{Stopped};
 
@@ -45,7 +45,7 @@ fn put(store: &mut [u32], n: usize, f: Finding)
 
 // The store has no place for this one.
 fn no_room(count: usize, f: Finding) -> Listed
-    ensures { λ r. ⌜ r ≡ Stopped count (noRoom f) ⌝ }
+    ensures { λ r. ⌜ r ≡ Stopped count (noRoomFor f) ⌝ }
 {
     Listed::Stopped {
         count,
@@ -63,7 +63,7 @@ fn no_room(count: usize, f: Finding) -> Listed
 pub(crate) fn note(store: &mut [u32], n: usize, count: usize, spotted: Spotted) -> Noted
     requires { ⌜ (n ≤ length (now store)) × (count ≤ n) × AllSmall spotted ⌝ }
     ensures { λ r. ⌜ (r ≡ notedOf (length (now (store .entry))) n count spotted)
-        × (now (store .exit) ≡ sets (now (store .entry)) n (wordsOf (listed spotted) (length (now (store .entry)) - n))) ⌝ }
+        × (now (store .exit) ≡ sets (now (store .entry)) n (wordsFound (listed spotted) (length (now (store .entry)) - n))) ⌝ }
 {
     let Spotted::One { finding } = spotted else {
         return Noted::Went { words: n, count };

@@ -26,7 +26,7 @@ ghost use Prim.Native.Nat.{_-_, _≤_};
 ghost use mathlib.Core.Path.{_≡_};
 ghost use lib.Seq.{sets};
 ghost use lib.ListN.{length};
-ghost use Rattle.findings.specs.Findings.{across, alike, alone, answerOf, asCode, endsAs, findingsOf, foundOf, fromOf, holdsAt, isBlank, isComment, markOf, onward, plainFinding, recordsOf, runsOn, runsOnCode, underFirst, walkAt, wordsOf};
+ghost use Rattle.findings.specs.Findings.{across, alike, alone, answerFound, asCode, endsAs, findingsOf, foundOf, fromOf, holdsAt, isBlank, isComment, markOf, onward, plainFinding, recordsOf, runsOn, runsOnCode, underFirst, walkAt, wordsFound};
 ghost use Rattle.findings.specs.declared.store.Spotted.the-variants.{One};
 ghost use Rattle.lexer.specs.Next.{nextAt};
 ghost use Rattle.listing.specs.declared.Listed.the-variants.{Stopped};
@@ -289,8 +289,8 @@ fn onward(s: &[u8], reading: Reading, at: usize, under: Under) -> Under
 
 fn find_tokens(s: &[u8], reading: Reading, store: &mut [u32], words: usize, found: usize) -> Listed
     requires { ⌜ (length (now s) ≤ 65536) × (words ≤ length (now store)) × (found ≤ words) ⌝ }
-    ensures { λ r. ⌜ (r ≡ answerOf (walkAt reading (now (s .entry)) 0 0) (endsAs (tokensAt (rulesOf reading) (now (s .entry)) 0)) (length (now (store .entry)) - words) found)
-        × (now (store .exit) ≡ sets (now (store .entry)) words (wordsOf (walkAt reading (now (s .entry)) 0 0) (length (now (store .entry)) - words))) ⌝ }
+    ensures { λ r. ⌜ (r ≡ answerFound (walkAt reading (now (s .entry)) 0 0) (endsAs (tokensAt (rulesOf reading) (now (s .entry)) 0)) (length (now (store .entry)) - words) found)
+        × (now (store .exit) ≡ sets (now (store .entry)) words (wordsFound (walkAt reading (now (s .entry)) 0 0) (length (now (store .entry)) - words))) ⌝ }
 {
     let mut n = words;
     let mut count = found;
@@ -340,8 +340,8 @@ fn find_tokens(s: &[u8], reading: Reading, store: &mut [u32], words: usize, foun
 
 fn find_all(s: &[u8], reading: Reading, store: &mut [u32]) -> Listed
     requires { ⌜ length (now s) ≤ 65536 ⌝ }
-    ensures { λ r. ⌜ (r ≡ answerOf (foundOf reading (now (s .entry))) (endsAs (tokensAt (rulesOf reading) (now (s .entry)) 0)) (length (now (store .entry))) 0)
-        × (now (store .exit) ≡ sets (now (store .entry)) 0 (wordsOf (foundOf reading (now (s .entry))) (length (now (store .entry))))) ⌝ }
+    ensures { λ r. ⌜ (r ≡ answerFound (foundOf reading (now (s .entry))) (endsAs (tokensAt (rulesOf reading) (now (s .entry)) 0)) (length (now (store .entry))) 0)
+        × (now (store .exit) ≡ sets (now (store .entry)) 0 (wordsFound (foundOf reading (now (s .entry))) (length (now (store .entry))))) ⌝ }
 {
     match note(store, 0, 0, mark(s)) {
         Noted::Full { listed } => listed,

@@ -40,7 +40,7 @@ plainOf form v p = pick (both (isBytes form) (ltb 0x7f v)) (Bad 25 p) (Item v p)
 abbrev pub escapeOf : Form → List ℕ → ℕ → Escape
 escapeOf form cs p = pick (isBytes form) (byteEscape (not (isSingle form)) cs p) (charEscape (isTemplate form) (not (isSingle form)) cs p)
 
--- what the scalar v begins; the scalars cs behind it stand at p
+-- what the scalar v begins; the scalars cs after it stand at p
 unfoldable pub itemOf : Form → ℕ → List ℕ → ℕ → Escape
 itemOf form v cs p = pick (eqb v 0x5c) (escapeOf form cs p) (plainOf form v p)
 

@@ -52,7 +52,7 @@ pub fn is_template(form: Form) -> bool
     }
 }
 
-// What the scalar v begins, with `next` behind it.
+// What the scalar v begins; `next` is the place after it.
 pub fn item_at(s: &[u8], form: Form, v: u32, next: usize) -> Escape
     ensures { λ r. ⌜ r ≡ itemOf form v (rest (now (s .entry)) next) next ⌝ }
 {

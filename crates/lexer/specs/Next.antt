@@ -22,7 +22,7 @@ abbrev pub isShebang : List ℕ → Bool
 isShebang [] = false
 isShebang (v ∷ cs) = both (eqb v 35) (nextIs 33 cs)
 
--- `#!` and the line behind it
+-- `#!` and the rest of its line
 abbrev pub shebangOf : Rules → List ℕ → ℕ → Read
 shebangOf R cs p = behindOne R (λ ds q. behindOne R (lineOf (R .wide) Shebang p) ds q) cs p
 

@@ -51,7 +51,7 @@ fn close_span(end: usize, r: Read) -> Read
     }
 }
 
-// For a place behind 0, where no shebang is looked for; for a caller that has tested the source once. Total on every slice and position.
+// For a place past 0, where no shebang is looked for; for a caller that has tested the source once. Total on every slice and position.
 pub fn later(s: &[u8], reading: Reading, at: usize) -> Read
     ensures { λ r. ⌜ r ≡ laterAt reading (now (s .entry)) at ⌝ }
 {

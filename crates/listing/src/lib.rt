@@ -38,7 +38,7 @@ fn refused_at(number: u32, at: usize) -> Listed
     }
 }
 
-// The store has no place for the token just read.
+// The store has no room for the token just read.
 fn no_room(count: usize, span: Span) -> Listed
     ensures { λ r. ⌜ r ≡ Stopped count (record { number = 3; span = span; reached = span .end }) ⌝ }
 {

@@ -24,7 +24,7 @@ pub record State : Type 0 where
 abbrev pub stateOf : Nums → List ℕ → List ℕ → List ℕ → State
 stateOf m held counts waiting = record { nums = m; held = held; counts = counts; waiting = waiting }
 
--- the number in a ring of the given size, i behind its start
+-- the number in a ring of the given size, i after its start
 abbrev pub ringAt : ℕ → List ℕ → ℕ → ℕ → ℕ
 ringAt size ring at i = getD ring ((at + i) % size) 0
 
@@ -56,7 +56,7 @@ unfoldable pub queued : ℕ → List ℕ → ℕ → ℕ → List ℕ
 queued zero ring at i = ring
 queued (suc n) ring at i = queued n (set ring (at % 256) i) (at + 1) (i + 1)
 
--- x behind the n of a ring of 8
+-- x after the n of a ring of 8
 abbrev pub pushed : List ℕ → ℕ → ℕ → ℕ → List ℕ
 pushed ring at n x = set ring ((at + n) % 8) x
 

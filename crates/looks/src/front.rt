@@ -74,7 +74,7 @@ pub(crate) fn emit_front(
     take_held(nums);
 }
 
-// The same at the front of the store. Mostly nothing waits before the token. It has one caller: so it is compiled into it.
+// The same at the front of the store. Mostly nothing waits before the token. It has one caller, so the compiler inlines it.
 pub(crate) fn emit_first(
     nums: &mut [u32; 6],
     white: u32,

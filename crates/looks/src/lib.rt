@@ -1,4 +1,4 @@
-// The calls of the lookahead buffer for a list that was tested, over the state's arrays where they lie.
+// The calls of the lookahead buffer, over the state's arrays where they lie.
 mod emit;
 pub mod emits;
 mod fill;

@@ -60,7 +60,7 @@ fn front_slow(
     0
 }
 
-// With one held or more nothing is to be filled. Each has one caller: so it is compiled into it.
+// With one held or more nothing is to be filled. Each has one caller, so the compiler inlines it.
 pub(crate) fn flush_ready(
     nums: &mut [u32; 6],
     held: &mut [u32; 8],

@@ -7,7 +7,7 @@ use Rattle.marks.specs.Shut.{isShut}
 use Rattle.numbers.specs.Kinds.{numberOf}
 use Rattle.token.specs.declared.kind.Kind.{Kind}
 
--- the marks that stay before and behind an inside, each scalar of one byte
+-- the marks that stay before and after an inside, each scalar of one byte
 unfoldable pub openMark : Kind → List ℕ
 openMark k =
     let n = numberOf k in

@@ -1,4 +1,4 @@
-// The lengths of the marks that stay before and behind a token's inside, by its kind.
+// The lengths of the marks that stay before and after a token's inside, by its kind.
 use token::Kind;
 ghost use mathlib.Core.Path.{_≡_};
 ghost use lib.ListN.{length};
@@ -25,7 +25,7 @@ fn is_shut(kind: Kind) -> bool
     closed
 }
 
-// How many stay behind it.
+// How many stay after it.
 pub fn closes(kind: Kind) -> usize
     ensures { λ r. ⌜ r ≡ length (closeMark kind) ⌝ }
 {

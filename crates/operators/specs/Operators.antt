@@ -52,7 +52,7 @@ abbrev pub orElse : Operator → Operator → Operator
 orElse (Found k p) f = Found k p
 orElse Nothing f = f
 
--- of the scalar v, which ends at p, and those behind it
+-- of the scalar v, which ends at p, and those after it
 unfoldable pub findOne : ℕ → ℕ → Operator
 findOne v p = foundAt (lookOne ones v) p
 

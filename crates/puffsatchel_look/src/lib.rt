@@ -221,5 +221,3 @@ pub extern "C" fn puffsatchel_array(
     let looked = array(state, tested, n, list, out);
     tell_looked(looked, answer)
 }
-
-// The same for a list that was tested once: one that is not of whole records or is faulty is not refused, but read as it stands.

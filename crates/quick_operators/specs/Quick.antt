@@ -22,6 +22,6 @@ bytesOf a b c = orElse (foundAt (lookThree threes a b c) 3) (orElse (foundAt (lo
 unfoldable pub quickOf : ℕ → ℕ → ℕ → ℕ
 quickOf a b c = pick (either (eqb a 35) (eqb a 47)) 0 (packed (bytesOf a b c))
 
--- .. at a place of a source; behind its end stands 0, with which no operator begins or goes on
+-- .. at a place of a source; past its end stands 0, with which no operator begins or goes on
 unfoldable pub quickAt : List ℕ → ℕ → ℕ
 quickAt s at = quickOf (getD s at 0) (getD s (at + 1) 0) (getD s (at + 2) 0)

@@ -30,11 +30,11 @@ ask = record { number = 0; end = 0 }
 abbrev pub blankBy : ℕ → ℕ → Quick
 blankBy c e = pick (either (ltb 127 c) (either (eqb c 11) (eqb c 12))) ask (record { number = 1; end = e })
 
--- .. from behind the first one, at p; behind the end of a source stands 0
+-- .. from after the first one, at p; past the end of a source stands 0
 unfoldable pub blankAt : List ℕ → ℕ → Quick
 blankAt s p = let e = p + length (passing isBlank (drop p s)) in blankBy (getD s e 0) e
 
--- a word that begins with a, up to e, where c stands: it may go on with what is not ASCII, and a quote behind `b` is no word's; a lone `_` is a kind of its own
+-- a word that begins with a, up to e, where c stands: it may go on with what is not ASCII, and a quote after `b` is no word's; a lone `_` is a kind of its own
 abbrev pub wordBy : ℕ → ℕ → ℕ → ℕ → Quick
 wordBy a p c e = pick (either (ltb 127 c) (both (eqb a 98) (either (eqb c 34) (eqb c 39)))) ask (record { number = pick (both (eqb a 95) (eqb e p)) 7 6; end = e })
 

@@ -72,7 +72,7 @@ fn word_end(s: &[u8], at: usize) -> usize
     p
 }
 
-// Behind the first byte of blanks.
+// From after the first byte of blanks on.
 fn blank(s: &[u8], at: usize) -> Quick
     ensures { λ r. ⌜ r ≡ blankAt (now (s .entry)) at ⌝ }
 {
@@ -90,7 +90,7 @@ fn blank(s: &[u8], at: usize) -> Quick
     Quick { number: 1, end }
 }
 
-// Behind the first byte of a word, which is a.
+// From after the first byte of a word, which is a, on.
 fn word(s: &[u8], a: u8, at: usize) -> Quick
     ensures { λ r. ⌜ r ≡ wordAt a (now (s .entry)) at ⌝ }
 {

@@ -1,4 +1,4 @@
--- Document 01, "How one token is read" with "Refusal numbers and places", rule by rule in its order. A reader takes the scalars behind
+-- Document 01, "How one token is read" with "Refusal numbers and places", rule by rule in its order. A reader takes the scalars after
 -- a token's opening, their place, and the place a where the token started.
 use Prim.Native.Nat.{ℕ, zero, suc, _+_}
 use mathlib.Core.List.{List, [], _∷_}
@@ -70,7 +70,7 @@ commentEnd w k cs p = endedOf (scan commentStep w (skips k) p cs p)
 unfoldable pub commentOf : Wide → ℕ → ℕ → List ℕ → ℕ → Read
 commentOf w k a cs p = let e = commentEnd w k cs p in gotOf (MultilineComment (e .closed)) a (e .end)
 
--- a byte: its first scalar is not tested, behind that a quote closes and a backslash takes the scalar behind it along
+-- a byte: its first scalar is not tested; after it a quote closes, and a backslash takes the scalar after it along
 pub data Bytes : Type 0 where
   fresh : Bytes
   body : Bytes
@@ -95,7 +95,7 @@ byteAnswer a body l p short = refusedOf 14 a p p
 unfoldable pub byteOf : Wide → ℕ → List ℕ → ℕ → Read
 byteOf w a cs p = let o = scan byteStep w fresh p cs p in byteAnswer a (o .state) (o .last) (o .place) (o .how)
 
--- a string or byte string: a quote closes, a backslash takes the scalar behind it along and sets the escape mark
+-- a string or byte string: a quote closes, a backslash takes the scalar after it along and sets the escape mark
 pub data Quoted : Type 0 where
   text : Bool → Quoted
   slashed : Bool → Quoted
@@ -130,7 +130,7 @@ startsWord R v = either (eqb v 95) (R .start v)
 unfoldable pub wordOf : Wide → (ℕ → Bool) → ℕ → ℕ → List ℕ → ℕ → Read
 wordOf w more v a cs p = let e = run w more cs p in gotOf (pick (both (eqb v 95) (eqb e p)) Underscore Ident) a e
 
--- a number: ASCII letters, digits and `_`; once, a `.` with a digit right behind it belongs to it too
+-- a number: ASCII letters, digits and `_`; once, a `.` with a digit right after it belongs to it too
 abbrev pub inNumber : ℕ → Bool
 inNumber v = either (isDigit v) (either (within 65 90 v) (either (within 97 122 v) (eqb v 95)))
 

@@ -12,7 +12,7 @@ pub record Rules : Type 0 where
   pub wide : ℕ → ℕ
   -- how many scalars are passed over after the opening of a comment
   pub skip : ℕ
-  -- word letters: the first one, and those behind it
+  -- word letters: the first one, and those after it
   pub start : ℕ → Bool
   pub continue : ℕ → Bool
 

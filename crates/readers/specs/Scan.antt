@@ -6,13 +6,13 @@ use mathlib.Core.List.{List, [], _∷_}
 abbrev pub Wide : Type 0
 Wide = ℕ → ℕ
 
--- what a scalar does: the scan goes on, stops before it, or stops behind it; each with the state then
+-- what a scalar does: the scan goes on, stops before it, or stops after it; each with the state then
 pub data Act (S : Type 0) : Type 0 where
   on : S → Act S
   before : S → Act S
   behind : S → Act S
 
--- why a scan stopped: the scalars ended, or one stopped it before or behind itself
+-- why a scan stopped: the scalars ended, or one stopped it before or after itself
 pub data How : Type 0 where
   ended : How
   short : How
@@ -29,7 +29,7 @@ module _ {S : Type 0} where
   abbrev pub stopAt : S → ℕ → ℕ → How → Stop S
   stopAt s l p h = record { state = s; last = l; place = p; how = h }
 
-  -- a step sees the state, the scalar, and the scalars behind it
+  -- a step sees the state, the scalar, and the scalars after it
   unfoldable pub scan : (S → ℕ → List ℕ → Act S) → Wide → S → ℕ → List ℕ → ℕ → Stop S
   scan step w s l [] p = stopAt s l p ended
   scan step w s l (v ∷ cs) p =

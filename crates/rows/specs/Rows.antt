@@ -22,7 +22,7 @@ pub record Row : Type 0 where
 abbrev pub wordRow : List ℕ → Row
 wordRow l = record { marked = true; kind = getD l 0 0; start = getD l 1 0; end = getD l 2 0 }
 
--- n rows of the given size, one behind the other
+-- n rows of the given size, one after the other
 unfoldable pub rowsOf : (List ℕ → Row) → ℕ → ℕ → List ℕ → List Row
 rowsOf row size zero s = []
 rowsOf row size (suc n) s = row s ∷ rowsOf row size n (drop size s)

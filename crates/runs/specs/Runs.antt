@@ -25,11 +25,11 @@ asciiOf (b ∷ s) = elim (leb b 0x7f) [ true ↦ b ∷ asciiOf s | false ↦ [] 
 abbrev pub runOf : Bool → List ℕ → List ℕ
 runOf bytes s = pick bytes (asciiOf (bareOf s)) (bareOf s)
 
--- the byte behind a backslash at a place, 0 where none stands there
+-- the byte after a backslash at a place, 0 where none stands there
 unfoldable pub escapedAt : List ℕ → ℕ → ℕ
 escapedAt s at = pick (eqb (getD s at 0) 0x5c) (getD s (at + 1) 0) 0
 
--- one more than what a byte behind a backslash stands for where the escape is these two bytes: 0x80 more again where only templates have it, and 0xff for no such escape
+-- one more than what a byte after a backslash stands for where the escape is these two bytes: 0x80 more again where only templates have it, and 0xff for no such escape
 unfoldable pub shortOf : ℕ → ℕ
 shortOf v =
     pick (eqb v 0x27) 0x28

@@ -10,7 +10,7 @@ ghost use lib.ListN.{drop, length};
 ghost use Rattle.runs.specs.Runs.{asciiOf, bareOf, beginsOf, escapedAt, limitOf, runOf, shortOf};
 ghost use Rattle.text.specs.Utf8.{rest};
 
-// The place of the first backslash, or the end. One test a loop: of two the compiler makes longer code than two loops have.
+// The place of the first backslash, or the end. One test a loop: with two in one loop the code is longer than that of two loops.
 fn bare_end(s: &[u8], at: usize) -> usize
     ensures { λ r. ⌜ r ≡ at + length (bareOf (drop at (now (s .entry)))) ⌝ }
 {
@@ -50,7 +50,7 @@ pub fn run_end(s: &[u8], at: usize, bytes: bool) -> usize
     end
 }
 
-// The byte behind the backslash at a place; 0: there is no backslash, or nothing behind it.
+// The byte after the backslash at a place; 0: there is no backslash, or nothing after it.
 pub fn escaped_at(s: &[u8], at: usize) -> u8
     ensures { λ r. ⌜ r ≡ escapedAt (now (s .entry)) at ⌝ }
 {
@@ -63,7 +63,7 @@ pub fn escaped_at(s: &[u8], at: usize) -> u8
     byte_at(s, at + 1)
 }
 
-// One more than what a byte behind a backslash stands for, and 0x80 more again where only templates have it; 0xff: the escape is none of two bytes.
+// One more than what a byte after a backslash stands for, and 0x80 more again where only templates have it; 0xff: the escape is none of two bytes.
 // Constants only, and none its own key, so that the compiler makes a table of them.
 pub fn short_escape(v: u8) -> u8
     ensures { λ r. ⌜ r ≡ shortOf v ⌝ }

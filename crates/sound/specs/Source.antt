@@ -33,7 +33,7 @@ positionTest s at =
       | Misplaced p ↦ Misplaced p
     ]
 
--- the paper's number of each case (0: none), and the point that is its span
+-- document 01's number of each case (0: none), and the point that is its span
 abbrev pub testNumber : Tested → ℕ
 testNumber Sound = 0
 testNumber TooLong = 1

@@ -8,39 +8,39 @@ use Rattle.text.specs.Utf8.{rest, scalarAt, secondAt}
 use Rattle.text.specs.declared.utf8.Scalar.{Scalar}
 use Rattle.text.specs.declared.utf8.Scalar.the-variants.{None, One}
 
--- "over covered functions on slice and number": the place after an answer; where there is no scalar, the same place
+-- on a slice and a number: the place after an answer; where there is no scalar, the same place
 abbrev pub placeAfter : Scalar → ℕ → ℕ
 placeAfter (One v n) at = n
 placeAfter None at = at
 
--- "over covered functions on slice and number": the scalar at a place, or none, and the place after it
+-- on a slice and a number: the scalar at a place, or none, and the place after it
 abbrev pub stepAt : List ℕ → ℕ → Step
 stepAt s at = record { scalar = scalarAt s at; at = placeAfter (scalarAt s at) at }
 
--- "a thin reader that holds the source slice": a new one stands at place 0
+-- a new reader stands at place 0
 abbrev pub newOf : RefT (List ℕ) → Source
 newOf s = record { src = s; at = 0 }
 
--- "struct of source slice and cursor": the cursor
+-- where it stands
 abbrev pub posOf : Source → ℕ
 posOf it = it .at
 
--- "with peek": the scalar at the cursor
+-- peek: the scalar where it stands
 abbrev pub peekOf : Source → Scalar
 peekOf it = scalarAt (it .src .now) (it .at)
 
--- "second peek": the scalar behind that one, none where that one is none
+-- peek2: the scalar after that one, none where that one is none
 abbrev pub peek2Of : Source → Scalar
 peek2Of it = secondAt (it .src .now) (it .at)
 
--- "and next": the scalar at the cursor
+-- next answers the scalar where it stands
 abbrev pub nextOf : Source → Scalar
 nextOf it = stepAt (it .src .now) (it .at) .scalar
 
--- "and next": the same source with the cursor behind that scalar; at the end the reader stays
+-- .. and then the reader of the same source stands after that scalar; at the end it stays
 abbrev pub movedOf : Source → Source
 movedOf it = record { src = it .src; at = stepAt (it .src .now) (it .at) .at }
 
--- "`Peekable` and `chars` become a cursor": the scalars from the cursor on, the Rust's `source.get(cursor..)?.chars()`
+-- the scalars from where it stands on, the Rust's `source.get(cursor..)?.chars()`
 abbrev pub charsOf : Source → List ℕ
 charsOf it = rest (it .src .now) (it .at)

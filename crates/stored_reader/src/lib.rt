@@ -1,4 +1,4 @@
-// The reader of the stored token list: three words a token, of records of 11 bytes.
+// The reader of the stored token list: records of 11 bytes into three words a token.
 // It answers the first refusal and then writes nothing; later words keep their content.
 use rows::Checked;
 use rows::Stored;

@@ -1,4 +1,4 @@
-// The writer of the stored token list: records of 11 bytes of a token list, three words a token.
+// The writer of the stored token list: three words a token into records of 11 bytes.
 // It answers the first refusal and then writes nothing; later bytes keep their content.
 use rows::Checked;
 use rows::Stored;

@@ -1,4 +1,4 @@
-// Bytes, strings and byte strings, from behind their opening on.
+// Bytes, strings and byte strings, from after their opening on.
 use text::Scalar;
 use token::Kind;
 use token::Read;

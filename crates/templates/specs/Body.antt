@@ -17,12 +17,12 @@ up l = (l + 1) % 4294967296
 abbrev pub down : ℕ → ℕ
 down l = (l + 4294967295) % 4294967296
 
--- behind a token that a backslash read: on from the place that it reached, its refusal dropped unless that is 19
+-- after a token that a backslash read: on from the place that it reached, its refusal dropped unless that is 19
 abbrev pub goOn : ℕ → Read → (ℕ → Read) → Read
 goOn a (Got k) go = go (k .span .end)
 goOn a (Refused r) go = elim (eqb (r .number) 19) [ true ↦ refusedOf 19 a (r .span .end) (r .reached) | false ↦ go (r .reached) ]
 
--- one scalar v of a body; behind it stand the scalars cs, from p on, and `go` reads on from a place at a brace level
+-- one scalar v of a body; after it stand the scalars cs, from p on, and `go` reads on from a place at a brace level
 unfoldable pub turnOf : (List ℕ → ℕ → Read) → ℕ → ℕ → List ℕ → ℕ → ℕ → (ℕ → ℕ → Read) → Read
 turnOf next a v cs p l go =
     elim (eqb v 96) [
@@ -47,7 +47,7 @@ bodyOf R next a t (v ∷ cs) p l =
       | false ↦ turnOf next a v cs (p + R .wide v) l (λ t′ l′. bodyOf R next a t′ cs (p + R .wide v) l′)
     ]
 
--- a template that starts at a, from behind its backtick on
+-- a template that starts at a, from after its backtick on
 unfoldable pub templateOf : Rules → (List ℕ → ℕ → Read) → Deep
 templateOf R next a cs p = bodyOf R next a 0 cs p 0
 

@@ -26,7 +26,7 @@ pub fn read_token(s: &[u8], reading: Reading, at: usize, depth: u32) -> Read
     read_template(s, reading, at, next, depth - 1)
 }
 
-// A template that starts at `start`, from behind its backtick on.
+// A template that starts at `start`, from after its backtick on.
 fn read_template(s: &[u8], reading: Reading, start: usize, at: usize, depth: u32) -> Read
     ensures { λ r. ⌜ r ≡ templateOf (rulesOf reading) (tokenOf (rulesOf reading) depth) start (rest (now (s .entry)) at) at ⌝ }
 {

@@ -149,7 +149,7 @@ pub fn scalar_at(s: &[u8], at: usize) -> Scalar
     }
 }
 
-// The scalar behind the one at a position.
+// The scalar after the one at a position.
 pub fn second_at(s: &[u8], at: usize) -> Scalar
     ensures { λ r. ⌜ r ≡ secondAt (now (s .entry)) at ⌝ }
 {

@@ -56,8 +56,8 @@ module _ (g : Reading) (s : List ℕ) (p : ℕ) (r : Read) (er : r ≡ nextAt g 
       (subst (λ (q : Read). Lands (rulesOf g) (rest s n) (p + width v) (reachedOf q)) (sym (er ∙ ap (λ (cs : List ℕ). nextOf (rulesOf g) (length s) cs p) (t .here))) (next-consumes (rulesOf g) (length s) v (rest s n) p))
 
   -- what is refused has read something too, and no more than there is
-  pub reached-room : p ≤ length s → reachedOf r ≤ length s
-  reached-room h = by-step s p (λ z. rw (er ∙ next-end g s p z) h) (λ v n t. lands-room g s (rest s n) n (reachedOf r) refl (t .room) (passes v n t))
+  pub reached-within : p ≤ length s → reachedOf r ≤ length s
+  reached-within h = by-step s p (λ z. rw (er ∙ next-end g s p z) h) (λ v n t. lands-room g s (rest s n) n (reachedOf r) refl (t .room) (passes v n t))
 
   pub refused-past : (k : Refusal) → r ≡ Refused k → p < reachedOf r
   refused-past k e =

@@ -1,4 +1,4 @@
--- The tokens of a source as data, read one behind the other up to the end or to a refusal.
+-- The tokens of a source as data, read one after the other up to the end or to a refusal.
 use Prim.Native.Nat.{ℕ, suc, _+_, _<_}
 use mathlib.Core.Path.{_≡_}
 use mathlib.Core.List.{List, [], _∷_}

@@ -11,7 +11,7 @@ use Rattle.escapes.specs.declared.Escape.the-variants.{Item}
 abbrev pub Packed : ℕ → Escape → ℕ → Type 0
 Packed p e r = 0 < r → Item (r / 16) (p + r % 16) ≡ e
 
--- a scalar in braces, the last of which is i bytes behind the backslash
+-- a scalar in braces, the last of which is i bytes after the backslash
 pub record IsClosed (some : Bool) (x i r : ℕ) : Type 0 where
   pub digits : some ≡ true
   pub scalar : isScalar x ≡ true

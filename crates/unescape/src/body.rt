@@ -117,7 +117,7 @@ fn measure(s: &[u8], form: Form) -> Measured
     }
 }
 
-// The first `len` of four bytes, to the place n on. No loop: of one the compiler makes a call of C's memcpy.
+// The first `len` of four bytes, to the place n on. No loop: the compiler would make it a call of C's memcpy.
 fn put(out: &mut [u8], n: usize, bytes: &[u8; 4], len: usize)
     requires { ⌜ (len ≤ 4) × (len ≤ length (now bytes)) × (n + len ≤ length (now out)) ⌝ }
     ensures { λ _. ⌜ now (out .exit) ≡ sets (now (out .entry)) n (take len (now (bytes .entry))) ⌝ }
@@ -250,7 +250,7 @@ fn count_items(s: &[u8], form: Form) -> usize
     }
 }
 
-// A char or byte body that gives other than one item. Only of these the items are counted.
+// A char or byte body that gives other than one item. Items are counted for these two alone.
 fn wrong_count(s: &[u8], form: Form) -> bool
     ensures { λ r. ⌜ r ≡ wrongCount form (length (bodyOf form 0 (rest (now (s .entry)) 0) 0 .items)) ⌝ }
 {

@@ -1,4 +1,4 @@
-// The escapes \x and \u by value, in one number. A help to speed alone: 0 says nothing, and `begin_at` is asked then.
+// The escapes \x and \u by value, in one number. They only save time: 0 says nothing, and then `begin_at` is asked.
 use items::Form;
 use items::is_bytes;
 use runs::escaped_at;
@@ -95,7 +95,7 @@ fn unicode_at(s: &[u8], at: usize) -> u32
     0
 }
 
-// The number x behind its digits, of which there was one or not, with the brace i bytes behind the backslash.
+// The number x after its digits; `some` says whether there was one, and the brace is i bytes after the backslash.
 fn unicode_closed(some: bool, x: u32, i: usize) -> u32
     ensures { λ r. ⌜ Closed some x i r ⌝ }
 {

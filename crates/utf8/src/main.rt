@@ -23,7 +23,7 @@ fn add_weighted(sum: u32, number: u32, fault: usize) -> u32 {
     total
 }
 
-// No sequence here is over-long and no position is asked for: the two last answers count nothing.
+// No sequence here is over-long and no position is asked for: the last two answers count nothing.
 fn test(tally: Tally, s: &[u8]) -> Tally {
     let tested = std::num::wrapping_add_u32(tally.tested, 1);
     let good = tally.good;

@@ -1,4 +1,4 @@
-// Words and numbers, from behind their first scalar on.
+// Words and numbers, from after their first scalar on.
 use text::Scalar;
 use token::Kind;
 use token::Read;

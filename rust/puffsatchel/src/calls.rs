@@ -1,5 +1,5 @@
 //! The calls of the archive, and all that is unsafe: each takes slices and hands on what the archive asks for, pointers
-//! that are not null and are aligned (a slice's always are, an empty one's too) with the number of elements behind them.
+//! that are not null and are aligned (a slice's always are, an empty one's too) with the number of elements there.
 
 pub(crate) use crate::lent::{Ahead, Answer};
 use crate::reading::Reading;

@@ -33,7 +33,7 @@ impl core::error::Error for Stopped {
 
 /// Lists the tokens of a source into a lent store, three words each from its first word on, and answers their count.
 ///
-/// The words behind the last token stored are unchanged. A store of three words for each byte of the source, or of
+/// The words after the last token stored are unchanged. A store of three words for each byte of the source, or of
 /// [`LARGEST_LIST`](crate::LARGEST_LIST) words, is always enough.
 ///
 /// ```

@@ -8,7 +8,7 @@ use crate::refusal::Refusal;
 /// What becomes of white space: the kinds for which [`Kind::is_whitespace`] holds, comments among them.
 #[derive(Debug, Clone, Copy, PartialEq, Eq, Hash)]
 pub enum Whitespace {
-    /// It is emitted with the token behind it.
+    /// It is emitted with the token after it.
     Keep,
     /// It is passed over.
     Drop,
@@ -61,7 +61,7 @@ impl<'a> Lookahead<'a> {
         token(answer).map(|token| token.kind)
     }
 
-    /// The kind of the token that is `n` behind the next; [`Kind::Eof`] past the end.
+    /// The kind of the token that is `n` after the next; [`Kind::Eof`] past the end.
     pub fn nth(&mut self, n: usize) -> Result<Kind, Refusal> {
         let answer = calls::nth(&mut self.state, Tested::Before, n, self.list).or_refusal()?;
         token(answer).map(|token| token.kind)

@@ -7,7 +7,7 @@ use crate::refusal::Refusal;
 /// Writes the source to the front of `out`, with `x` over every byte inside strings, byte strings, comments and templates.
 ///
 /// From a token that cannot be read on, the source is copied, and that token's refusal (10 to 19) is the answer. The
-/// refusals 1, 2, and 3 for an `out` shorter than the source, have written nothing. Bytes behind it are unchanged.
+/// refusals 1, 2, and 3 for an `out` shorter than the source, have written nothing. Later bytes are unchanged.
 ///
 /// ```
 /// use puffsatchel::{outline, Reading};
@@ -38,7 +38,7 @@ pub enum Form {
 
 /// Writes what a body stands for, its escapes read, to the front of `out`, and answers the number of bytes.
 ///
-/// That is never more than the body has. A refusal has written nothing; bytes behind what is written are unchanged.
+/// That is never more than the body has. A refusal has written nothing; bytes after what is written are unchanged.
 ///
 /// ```
 /// use puffsatchel::{unescape, Form};

@@ -12,7 +12,7 @@ fn refused(refusal: Refusal) -> (u32, usize, usize) {
     (refusal.reason.number(), refusal.span.start, refusal.span.end)
 }
 
-/// The answer of `list` with room for so many words, and the words before and behind the end of that room.
+/// The answer of `list` with room for so many words, and the words before and after the end of that room.
 fn listed(source: &str, reading: Reading, room: usize) -> (Result<usize, Stopped>, Vec<u32>) {
     let mut words = vec![WORD; room + 6];
     let answer = list(source, reading, &mut words[..room]);

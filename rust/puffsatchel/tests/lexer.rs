@@ -91,7 +91,7 @@ fn operators_in_the_order_of_their_numbers() {
 fn refusals() {
     let table = [
         ("\"a\\", [10, 2, 3, 3]),
-        // The first scalar behind b' is skipped, so only the second backslash escapes.
+        // The first scalar after b' is skipped, so only the second backslash escapes.
         ("b'\\\\", [10, 3, 4, 4]),
         ("'A\u{7f}'", [11, 0, 2, 2]),
         ("''abc", [12, 0, 5, 2]),
@@ -123,7 +123,7 @@ fn depth() {
     let nested = |depth: usize| vec!["`"; depth].join("\\") + &"`".repeat(depth);
     assert_eq!(both(&nested(64)), (vec![[16, 0, nested(64).len()]], None));
 
-    // The 65th backtick stands behind 64 others, each but the first with its backslash.
+    // The 65th backtick stands after 64 others, each but the first with its backslash.
     let (tokens, refused) = both(&nested(65));
     assert_eq!((tokens, refused.map(|[number, start, end, _]| [number, start, end])), (vec![], Some([19, 0, 129])));
 }

@@ -15,7 +15,7 @@ fn number<T>(answer: Result<T, Refusal>) -> u32 {
     answer.err().map_or(0, |refusal| refusal.reason.number())
 }
 
-/// What a call writes to a store of so many words: all of them, with the marks behind.
+/// What a call writes to a store of so many words: all of them, with the marks after them.
 fn out(room: usize) -> Vec<u32> {
     vec![WORD; room]
 }

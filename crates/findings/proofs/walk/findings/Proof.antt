@@ -2,7 +2,7 @@ use mathlib.Core.Path.{sym, ap, _∙_}
 use borrow.Author.Needs.{needs}
 use lib.Seq.{sets}
 use lib.ListN.{length}
-use Rattle.findings.proofs.Turns.{by-test}
+use Rattle.findings.proofs.Turns.{found-by-test}
 use Rattle.findings.specs.Findings.{walk}
 use Rattle.sound.proofs.Places.{sound-inv}
 use Rattle.sound.specs.declared.Tested.the-variants.{IllFormed, Misplaced, Sound, TooLong}
@@ -40,16 +40,16 @@ same-length : tie.Need-same-length
 same-length c = c .before .before .find-all .kept .1 .1 .0
 
 returns : tie.Need-returns
-returns c = let w = by-test (c .before .before .before .before .before .before .before .before .before .args .reading) (c .before .before .before .before .before .before .before .before .before .args .s .now) (length (c .before .before .before .before .before .before .before .before .before .args .store .now)) Sound (sym (c .before .before .before .before .enum-told .given .1) ∙ c .before .before .before .before .before .before .test-source .ensures) in (c .before .before .find-all .ensures .0 ∙ sym (w .0), c .before .before .find-all .ensures .1 ∙ sym (ap (sets (c .before .before .before .before .before .before .before .before .before .args .store .now) 0) (w .1)))
+returns c = let w = found-by-test (c .before .before .before .before .before .before .before .before .before .args .reading) (c .before .before .before .before .before .before .before .before .before .args .s .now) (length (c .before .before .before .before .before .before .before .before .before .args .store .now)) Sound (sym (c .before .before .before .before .enum-told .given .1) ∙ c .before .before .before .before .before .before .test-source .ensures) in (c .before .before .find-all .ensures .0 ∙ sym (w .0), c .before .before .find-all .ensures .1 ∙ sym (ap (sets (c .before .before .before .before .before .before .before .before .before .args .store .now) 0) (w .1)))
 
 returns-2 : tie.Need-returns-2
-returns-2 c = let w = by-test (c .before .before .before .before .before .before .args .reading) (c .before .before .before .before .before .before .args .s .now) (length (c .before .before .before .before .before .before .args .store .now)) TooLong (sym (c .before .enum-told2 .given .1) ∙ c .before .before .before .test-source .ensures) in (c .refused-at .ensures ∙ sym (w .0), sym (ap (sets (c .before .before .before .before .before .before .args .store .now) 0) (w .1)))
+returns-2 c = let w = found-by-test (c .before .before .before .before .before .before .args .reading) (c .before .before .before .before .before .before .args .s .now) (length (c .before .before .before .before .before .before .args .store .now)) TooLong (sym (c .before .enum-told2 .given .1) ∙ c .before .before .before .test-source .ensures) in (c .refused-at .ensures ∙ sym (w .0), sym (ap (sets (c .before .before .before .before .before .before .args .store .now) 0) (w .1)))
 
 returns-3 : tie.Need-returns-3
-returns-3 c = let w = by-test (c .before .before .before .before .before .before .before .args .reading) (c .before .before .before .before .before .before .before .args .s .now) (length (c .before .before .before .before .before .before .before .args .store .now)) (IllFormed (c .before .before .at .given .0 .0)) (sym (c .before .before .at .given .1) ∙ c .before .before .before .before .test-source .ensures) in (c .refused-at2 .ensures ∙ sym (w .0), sym (ap (sets (c .before .before .before .before .before .before .before .args .store .now) 0) (w .1)))
+returns-3 c = let w = found-by-test (c .before .before .before .before .before .before .before .args .reading) (c .before .before .before .before .before .before .before .args .s .now) (length (c .before .before .before .before .before .before .before .args .store .now)) (IllFormed (c .before .before .at .given .0 .0)) (sym (c .before .before .at .given .1) ∙ c .before .before .before .before .test-source .ensures) in (c .refused-at2 .ensures ∙ sym (w .0), sym (ap (sets (c .before .before .before .before .before .before .before .args .store .now) 0) (w .1)))
 
 returns-4 : tie.Need-returns-4
-returns-4 c = let w = by-test (c .before .before .before .before .before .before .before .args .reading) (c .before .before .before .before .before .before .before .args .s .now) (length (c .before .before .before .before .before .before .before .args .store .now)) (Misplaced (c .before .before .at2 .given .0 .0)) (sym (c .before .before .at2 .given .1) ∙ c .before .before .before .before .test-source .ensures) in (c .refused-at3 .ensures ∙ sym (w .0), sym (ap (sets (c .before .before .before .before .before .before .before .args .store .now) 0) (w .1)))
+returns-4 c = let w = found-by-test (c .before .before .before .before .before .before .before .args .reading) (c .before .before .before .before .before .before .before .args .s .now) (length (c .before .before .before .before .before .before .before .args .store .now)) (Misplaced (c .before .before .at2 .given .0 .0)) (sym (c .before .before .at2 .given .1) ∙ c .before .before .before .before .test-source .ensures) in (c .refused-at3 .ensures ∙ sym (w .0), sym (ap (sets (c .before .before .before .before .before .before .before .args .store .now) 0) (w .1)))
 
 pub findings-spec : {M : Type 1} → statement M
 findings-spec =

@@ -1,0 +1,28 @@
+-- How far the list in force and the one under First are the same, word for word.
+use Prim.Native.Nat.{ℕ}
+use mathlib.Core.List.{List, [], _∷_}
+use mathlib.Core.Bool.{Bool, true, not}
+use lib.Dec.{ltb}
+use Rattle.findings.specs.declared.store.Finding.{Finding}
+use Rattle.laws.specs.Bools.{both, pick, within}
+use Rattle.numbers.specs.Kinds.{numberOf}
+use Rattle.tokens.specs.Tokens.{Tokens, fin, halt, more}
+
+-- a finding at which the two readings part
+abbrev pub parts : Finding → Bool
+parts f = within 60 61 (f .code)
+
+-- the place of the first of these, or e where there is none
+unfoldable pub partAt : List Finding → ℕ → ℕ
+partAt [] e = e
+partAt (f ∷ fs) e = pick (parts f) (f .start) (partAt fs e)
+
+unfoldable pub partless : List Finding → Bool
+partless [] = true
+partless (f ∷ fs) = both (not (parts f)) (partless fs)
+
+-- the words of the tokens that begin before the place e
+unfoldable pub wordsBefore : ℕ → Tokens → List ℕ
+wordsBefore e fin = []
+wordsBefore e (halt r) = []
+wordsBefore e (more k ts) = pick (ltb (k .span .start) e) (numberOf (k .kind) ∷ (k .span .start ∷ (k .span .end ∷ wordsBefore e ts))) []
