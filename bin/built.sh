@@ -27,7 +27,7 @@ prove() {
     fi
     began=$(date +%s)
     (cd "$root" && rt check "$1") >"$kept/$1.log" 2>&1 || {
-        tail -n 20 "$kept/$1.log" >&2
+        grep -v "proved (unchanged" "$kept/$1.log" | tail -n 20 >&2
         fail "the program $1 is not built: the last lines of $kept/$1.log are above"
     }
     took=$(($(date +%s) - began))
