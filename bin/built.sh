@@ -21,6 +21,10 @@ prove() {
     took=$(cat "$kept/$1.took" 2>/dev/null) && took="last time that took $took s" || took="that takes some minutes"
     echo "$tool: the program $1 is proved and built now; $took. This happens once, and again after a change" >&2
     before=$(sources)
+    # rt looks at the sources alone: it would not miss a program that is gone, nor see another one in its place.
+    if [ ! -x "$program" ] || [ "$before" = "$(head -n 1 "$kept/$1.state" 2>/dev/null)" ]; then
+        rm -f "$root/target/stamp/$1"
+    fi
     began=$(date +%s)
     (cd "$root" && rt check "$1") >"$kept/$1.log" 2>&1 || {
         tail -n 20 "$kept/$1.log" >&2

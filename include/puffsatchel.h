@@ -1,7 +1,10 @@
-/* Puffsatchel: reads the text of site rules (Rune scripts) into tokens. Proved: every call answers on every input, and as this page says.
+/* SPDX-License-Identifier: Apache-2.0
  *
- * Link with libpuffsatchel.a (bin/build-library; x86-64). No call keeps or allocates memory, calls another library or has state of its own;
- * calls on different memory may run at the same time.
+ * Puffsatchel: reads the text of site rules (Rune scripts) into tokens. Proved: every call answers on every input, and as this page says.
+ *
+ * Link with libpuffsatchel.a (bin/build-library). No call keeps or allocates memory, calls another library or has state of its own;
+ * calls on different memory may run at the same time. A call takes less than 1 KiB of stack, and less than 16 KiB where 64 templates stand in
+ * each other (measured; bin/test-c holds both).
  *
  * One convention for all: the result is the number of a refusal, 0 where nothing was refused. The rest of the answer goes to the record
  * that the caller lends, all five fields of it, in every case; what a call does not give is 0.
@@ -12,6 +15,10 @@
 #ifndef PUFFSATCHEL_H
 #define PUFFSATCHEL_H
 
+#if !defined(__x86_64__) || !defined(__ELF__) || defined(__ILP32__)
+#error "libpuffsatchel.a is always built for x86-64 Linux, so compile for that too: with Debian's x86_64-linux-gnu-gcc, for example."
+#endif
+
 #include <stddef.h>
 #include <stdint.h>
 
@@ -20,13 +27,15 @@ extern "C" {
 #endif
 
 /* The version of this page; puffsatchel_version() is that of the archive. */
-#define PUFFSATCHEL_VERSION 4
+#define PUFFSATCHEL_VERSION 5
 
 /* Sizes, for memory that is always enough. */
 enum {
     PUFFSATCHEL_LARGEST_SOURCE = 65536,                                 /* bytes */
     PUFFSATCHEL_WORDS_PER_TOKEN = 3,                                    /* kind, start, end */
     PUFFSATCHEL_LARGEST_LIST = 3 * PUFFSATCHEL_LARGEST_SOURCE,          /* words: a token is a byte or more */
+    PUFFSATCHEL_FINDING_WORDS = 5,                                      /* code, start, end, from, to */
+    PUFFSATCHEL_LARGEST_FINDINGS = 5 * PUFFSATCHEL_LARGEST_SOURCE,      /* words: no more findings than bytes */
     PUFFSATCHEL_BYTES_PER_RECORD = 11,                                  /* of a stored list */
     PUFFSATCHEL_LARGEST_STORED = 11 * PUFFSATCHEL_LARGEST_SOURCE,       /* bytes */
     PUFFSATCHEL_DEEPEST_TEMPLATE = 64,
@@ -223,6 +232,20 @@ uint32_t puffsatchel_list(const uint8_t *source, size_t source_len, uint32_t rea
 /* Writes the source with x over every byte inside strings, byte strings, comments and templates; from a refused token on it is copied, and
  * the refusal (10 to 19) is the result. 6, 1, 2, and 3 for an out shorter than the source, write nothing. Later bytes are unchanged. */
 uint32_t puffsatchel_outline(const uint8_t *source, size_t source_len, uint32_t reading, uint8_t *out, size_t out_len, puffsatchel_answer *answer);
+
+/* Finds what the writer of a source would want to know, and stores five words each, from the store's first word on: the code (60 to 65), start and
+ * end of a token, and a stretch of the source, from one place to before another. They come in the order of places; count is of stored findings.
+ *
+ * The tokens are those of the reading named. Where that is the crate's, they are compared with those to the first close, which are what a person
+ * sees; with nothing found both lists are the same. What the stretch is:
+ *     60, 61    between the two ends. As a rule `to` is the token's end, and the stretch is comment though it does not look it. Where `from`
+ *               is the token's end (a template may end sooner), the stretch is in force though it looks like text of the template.
+ *     62        the comment that the token seems to be inside; each such token is a finding.
+ *     63 to 65  a point at the token's end. Before 63 the same comment may have a 60 or a 61.
+ *
+ * Stops at the first refusal (6, 1, 2, then 10 to 19 where reading stops, and 3 for the finding that found no five words: its span is the
+ * refusal's). The findings before it stay stored, all later words are unchanged. Five words for each byte of the source are always enough. */
+uint32_t puffsatchel_findings(const uint8_t *source, size_t source_len, uint32_t reading, uint32_t *store, size_t store_len, puffsatchel_answer *answer);
 
 /* Writes what a body stands for, its escapes read by one of the five forms; count is of written bytes, never more than the body has.
  * Refuses with 5, 1, 2, the earliest of 20 to 25, 27, 26, and then writes nothing. Later bytes are unchanged. */

@@ -4,8 +4,9 @@
 
 use core::fmt::{self, Write};
 
-use puffsatchel::{list, load, outline, read, store, test, unescape};
-use puffsatchel::{Code, Form, Kind, Lexer, Lookahead, Reading, Reason, Refusal, Stopped, Token, Tokens, Whitespace};
+use puffsatchel::{findings, list, load, outline, read, store, test, unescape};
+use puffsatchel::{Code, Finding, Findings, Stopped, Token, Tokens};
+use puffsatchel::{Form, Kind, Lexer, Lookahead, Reading, Reason, Refusal, Whitespace};
 
 #[no_mangle]
 pub fn readings() -> [Reading; 2] {
@@ -41,6 +42,21 @@ pub fn tokens_new(words: &[u32]) -> Tokens<'_> {
 #[no_mangle]
 pub fn tokens_next(tokens: &mut Tokens<'_>) -> Option<Result<Token, Refusal>> {
     tokens.next()
+}
+
+#[no_mangle]
+pub fn finds<'a>(source: &'a [u8], reading: Reading, words: &'a mut [u32]) -> Result<Findings<'a>, Stopped> {
+    findings(source, reading, words)
+}
+
+#[no_mangle]
+pub fn findings_new<'a>(source: &'a [u8], words: &'a [u32]) -> Findings<'a> {
+    Findings::of(source, words)
+}
+
+#[no_mangle]
+pub fn findings_next(found: &mut Findings<'_>) -> Option<Result<Finding, Refusal>> {
+    found.next()
 }
 
 #[no_mangle]

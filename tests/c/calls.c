@@ -157,6 +157,49 @@ static void lists(void) {
     EXPECT(LIST("a;\xc3", 64) == PUFFSATCHEL_ILL_FORMED && answered(0, 0, 2, 2, 2) && stored(store, 0));
 }
 
+/* The store is that of the lists. */
+static uint32_t found(const char *text, size_t len, size_t room) {
+    size_t i;
+    for (i = 0; i < 64; i++) store[i] = MARK_WORD;
+    forget();
+    return puffsatchel_findings(bytes(text, len), len, reading, store, room, &answer);
+}
+
+#define FIND(text, room) found(text, sizeof(text) - 1, room)
+
+/* What is found in either reading. */
+static void finds(void) {
+    static const uint32_t words_comment[] = {63, 2, 5, 5, 5};
+    static const uint32_t words_template[] = {64, 0, 2, 2, 2};
+    static const uint32_t words_mark[] = {65, 0, 3, 3, 3};
+    EXPECT(FIND("", 0) == 0 && answered(0, 0, 0, 0, 0) && stored(store, 0));
+    EXPECT(FIND("a; /*ab*/ `a` // b", 64) == 0 && answered(0, 0, 0, 0, 0) && stored(store, 0));
+    EXPECT(FIND("a /*b", 64) == 0 && answered(0, 1, 0, 0, 0) && STORED(comment));
+    EXPECT(FIND("a /*b", 5) == 0 && answered(0, 1, 0, 0, 0) && STORED(comment));
+    EXPECT(FIND("a /*b", 4) == PUFFSATCHEL_NO_ROOM && answered(0, 0, 2, 5, 5) && stored(store, 0));
+    EXPECT(FIND("a /*b", 0) == PUFFSATCHEL_NO_ROOM && answered(0, 0, 2, 5, 5) && stored(store, 0));
+    EXPECT(FIND("`{`", 64) == 0 && answer.count == 1 && store[0] == PUFFSATCHEL_TEMPLATE_UNCLOSED && store[2] == 3);
+    EXPECT(FIND("`a", 64) == 0 && answered(0, 1, 0, 0, 0) && STORED(template));
+    EXPECT(FIND("\xef\xbb\xbf" "a", 64) == PUFFSATCHEL_UNEXPECTED_CHAR && answered(0, 1, 0, 3, 3) && STORED(mark));
+    EXPECT(FIND("\xef\xbb\xbf" "a", 4) == PUFFSATCHEL_NO_ROOM && answered(0, 0, 0, 3, 3) && stored(store, 0));
+    EXPECT(FIND("a \"b", 64) == PUFFSATCHEL_UNTERMINATED_STR_LIT && answered(0, 0, 2, 4, 4) && stored(store, 0));
+    EXPECT(FIND("/*\xff", 64) == PUFFSATCHEL_ILL_FORMED && answered(0, 0, 2, 2, 2) && stored(store, 0));
+}
+
+/* Line ends of both kinds and none, bytes that are no text. */
+static void finds_in_any_bytes(void) {
+    char all[256];
+    size_t i;
+    for (i = 0; i < sizeof all; i++) all[i] = (char)i;
+    EXPECT(found(all, sizeof all, 64) == PUFFSATCHEL_ILL_FORMED && answered(0, 0, 128, 128, 128) && stored(store, 0));
+    EXPECT(found(all, 128, 64) == PUFFSATCHEL_UNEXPECTED_CHAR && answered(0, 0, 0, 1, 1) && stored(store, 0));
+    EXPECT(FIND("a\0b", 64) == PUFFSATCHEL_UNEXPECTED_CHAR && answered(0, 0, 1, 2, 2) && stored(store, 0));
+    EXPECT(FIND("// \0\n/*\0\0*/", 64) == 0 && answered(0, 0, 0, 0, 0) && stored(store, 0));
+    EXPECT(FIND("/*a\xc3", 64) == PUFFSATCHEL_ILL_FORMED && answered(0, 0, 3, 3, 3) && stored(store, 0));
+    EXPECT(FIND("a; // b\r\nc; /*  */\r\n", 64) == 0 && answered(0, 0, 0, 0, 0) && stored(store, 0));
+    EXPECT(FIND("a;\n// b", 64) == 0 && answered(0, 0, 0, 0, 0) && stored(store, 0));
+}
+
 static void outlines(void) {
     EXPECT(OUTLINE("a\"b\"c", 5) == 0 && answered(0, 0, 0, 0, 0) && WROTE("a\"x\"c"));
     EXPECT(OUTLINE("//ab\n/*ab*/`}`", 64) == 0 && answered(0, 0, 0, 0, 0) && WROTE("//xx\n/*xx*/`xx"));
@@ -172,6 +215,12 @@ static void outlines(void) {
 static void comments_of_the_crate(void) {
     static const uint32_t words_all[] = {3, 0, 9};
     static const uint32_t words_template[] = {16, 0, 8};
+    static const uint32_t words_hidden[] = {60, 0, 9, 4, 9};
+    static const uint32_t words_note[] = {61, 0, 11, 4, 11};
+    static const uint32_t words_open[] = {61, 0, 4, 4, 4, 63, 0, 4, 4, 4};
+    static const uint32_t words_half[] = {61, 0, 4, 4, 4};
+    static const uint32_t words_code[] = {61, 0, 11, 4, 11, 62, 12, 13, 5, 14, 62, 13, 14, 5, 14};
+    static const uint32_t words_later[] = {60, 0, 8, 7, 8, 64, 0, 8, 8, 8};
     EXPECT(READ("/**/", 0) == 0 && answered(PUFFSATCHEL_KIND_UNCLOSED_COMMENT, 0, 0, 4, 4));
     EXPECT(READ("/* */", 0) == 0 && answered(PUFFSATCHEL_KIND_UNCLOSED_COMMENT, 0, 0, 5, 5));
     EXPECT(READ("/***/", 0) == 0 && answered(PUFFSATCHEL_KIND_UNCLOSED_COMMENT, 0, 0, 5, 5));
@@ -181,6 +230,14 @@ static void comments_of_the_crate(void) {
     EXPECT(NEXT("/**/x/**/", 0) == 0 && answered(PUFFSATCHEL_KIND_MULTILINE_COMMENT, 0, 0, 9, 9));
     EXPECT(LIST("/**/x/**/", 64) == 0 && answered(0, 1, 0, 0, 0) && STORED(all));
     EXPECT(LIST("`\\/**/`x", 64) == 0 && answered(0, 1, 0, 0, 0) && STORED(template));
+    EXPECT(FIND("/**/x/**/", 64) == 0 && answered(0, 1, 0, 0, 0) && STORED(hidden));
+    EXPECT(FIND("/**/\r\n/* */\r\nx", 64) == 0 && answered(0, 1, 0, 0, 0) && STORED(note));
+    EXPECT(FIND("/**/", 64) == 0 && answered(0, 2, 0, 0, 0) && STORED(open));
+    EXPECT(FIND("/**/", 9) == PUFFSATCHEL_NO_ROOM && answered(0, 1, 0, 4, 4) && STORED(half));
+    EXPECT(FIND("/**/ // a*/ b;", 64) == 0 && answered(0, 3, 0, 0, 0) && STORED(code));
+    EXPECT(FIND("`\\/**/`x", 64) == 0 && answered(0, 2, 0, 0, 0) && STORED(later));
+    EXPECT(FIND("`\\/**/`a` */`x", 64) == 0 && answer.count == 1 && store[0] == PUFFSATCHEL_RUNS_ON && store[3] == 7 && store[4] == 13);
+    EXPECT(FIND("/**/a/**/ \"", 64) == PUFFSATCHEL_UNTERMINATED_STR_LIT && answered(0, 1, 10, 11, 11) && STORED(hidden));
     EXPECT(OUTLINE("/**/x/**/", 64) == 0 && answered(0, 0, 0, 0, 0) && WROTE("/*xxxxx*/"));
     EXPECT(OUTLINE("/*a*/b", 64) == 0 && answered(0, 0, 0, 0, 0) && WROTE("/*xxxx"));
     EXPECT(OUTLINE("`\\/**/`x", 64) == 0 && answered(0, 0, 0, 0, 0) && WROTE("`xxxxxxx"));
@@ -198,6 +255,7 @@ static void comments_to_the_first_close(void) {
     EXPECT(NEXT("/**/x/**/", 0) == 0 && answered(PUFFSATCHEL_KIND_MULTILINE_COMMENT, 0, 0, 4, 4));
     EXPECT(LIST("/**/x/**/", 64) == 0 && answered(0, 3, 0, 0, 0) && STORED(all));
     EXPECT(LIST("`\\/**/`x", 64) == 0 && answered(0, 2, 0, 0, 0) && STORED(template));
+    EXPECT(FIND("/**/x/**/ // a*/ `\\/**/` b", 64) == 0 && answered(0, 0, 0, 0, 0) && stored(store, 0));
     EXPECT(OUTLINE("/**/x/**/", 64) == 0 && answered(0, 0, 0, 0, 0) && WROTE("/**/x/**/"));
     EXPECT(OUTLINE("/*a*/b", 64) == 0 && answered(0, 0, 0, 0, 0) && WROTE("/*x*/b"));
     EXPECT(OUTLINE("`\\/**/`x", 64) == 0 && answered(0, 0, 0, 0, 0) && WROTE("`xxxxx`x"));
@@ -291,6 +349,8 @@ static void largest(void) {
     EXPECT(read_at(text, most, most) == 0 && answered(PUFFSATCHEL_KIND_EOF, 0, most, most, most));
     EXPECT(read_at(text, most + 1, 0) == PUFFSATCHEL_TOO_LONG && answered(0, 0, 0, 0, 0));
     EXPECT(list(text, most + 1, 64) == PUFFSATCHEL_TOO_LONG && answered(0, 0, 0, 0, 0) && stored(store, 0));
+    EXPECT(found(text, most, 0) == 0 && answered(0, 0, 0, 0, 0) && stored(store, 0));
+    EXPECT(found(text, most + 1, 64) == PUFFSATCHEL_TOO_LONG && answered(0, 0, 0, 0, 0) && stored(store, 0));
     EXPECT(outline(text, most + 1, 64) == PUFFSATCHEL_TOO_LONG && answered(0, 0, 0, 0, 0) && WROTE(""));
     EXPECT(outline(text, most, 64) == PUFFSATCHEL_NO_ROOM && answered(0, 0, 0, 0, 0) && WROTE(""));
     EXPECT(unescape(text, most + 1, PUFFSATCHEL_FORM_TEXT, 64) == PUFFSATCHEL_TOO_LONG && answered(0, 0, 0, 0, 0) && WROTE(""));
@@ -317,6 +377,25 @@ static void deepest(void) {
     EXPECT(read_at(text, most + 2, 0) == PUFFSATCHEL_TOO_DEEP && answered(0, 0, 0, most + 2, most + 2));
 }
 
+/* A comment that runs on into the line after it, and then as many tokens as there is room for that seem to be in a comment. */
+static void most_findings(void) {
+    static char text[PUFFSATCHEL_LARGEST_SOURCE];
+    const size_t most = sizeof text, opened = sizeof "/**/ // a*/" - 1;
+    uint32_t *words = (uint32_t *)(void *)edge(PUFFSATCHEL_LARGEST_FINDINGS * sizeof(uint32_t));
+    size_t at;
+    int right = 1;
+    memset(text, ';', most);
+    memcpy(text, "/**/ // a*/", opened);
+    forget();
+    EXPECT(puffsatchel_findings(bytes(text, most), most, PUFFSATCHEL_COMMENTS_CRATE, words, PUFFSATCHEL_LARGEST_FINDINGS, &answer) == 0);
+    EXPECT(answered(0, 1 + most - opened, 0, 0, 0) && words[0] == PUFFSATCHEL_RUNS_ON_BLANK && words[2] == opened);
+    for (at = opened; at < most; at++) {
+        const uint32_t *record = words + 5 * (1 + at - opened);
+        right = right && record[0] == PUFFSATCHEL_READ_AS_CODE && record[1] == at && record[2] == at + 1 && record[3] == 5 && record[4] == most;
+    }
+    EXPECT(right);
+}
+
 static int no_reading(uint32_t result) {
     return result == PUFFSATCHEL_NO_SUCH_READING && answered(0, 0, 0, 0, 0);
 }
@@ -340,6 +419,10 @@ static void refuses_a_reading(void) {
         EXPECT(no_reading(LIST("a;", 0)) && stored(store, 0));
         EXPECT(no_reading(LIST("a;\xff", 64)) && stored(store, 0));
         EXPECT(no_reading(list(text, sizeof text, 64)) && stored(store, 0));
+        EXPECT(no_reading(FIND("/*", 64)) && stored(store, 0));
+        EXPECT(no_reading(FIND("/*", 0)) && stored(store, 0));
+        EXPECT(no_reading(FIND("/*\xff", 64)) && stored(store, 0));
+        EXPECT(no_reading(found(text, sizeof text, 64)) && stored(store, 0));
         EXPECT(no_reading(OUTLINE("\"a\"", 64)) && WROTE(""));
         EXPECT(no_reading(OUTLINE("\"a\"", 2)) && WROTE(""));
         EXPECT(no_reading(OUTLINE("\"a\"\xff", 64)) && WROTE(""));
@@ -375,6 +458,8 @@ static void reads_by(uint32_t number) {
     refuses_a_place();
     reads_on();
     lists();
+    finds();
+    finds_in_any_bytes();
     outlines();
     largest();
     deepest();
@@ -386,6 +471,7 @@ int main(void) {
     tests_a_source();
     reads_by(PUFFSATCHEL_COMMENTS_CRATE);
     comments_of_the_crate();
+    most_findings();
     reads_by(PUFFSATCHEL_COMMENTS_FIRST);
     comments_to_the_first_close();
     refuses_a_reading();

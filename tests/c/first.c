@@ -5,6 +5,7 @@
  * usage: first              the first close after the opening, PUFFSATCHEL_COMMENTS_FIRST
  *        first --crate      the first one after two more scalars, PUFFSATCHEL_COMMENTS_CRATE */
 #define _GNU_SOURCE
+#include "chance.h"
 #include "lent.h"
 
 static const char ALPHABET[] = {'/', '*', 'a', '\n', ' ', '`', '\\', '"'};
@@ -263,15 +264,6 @@ static void every_short_source(void) {
             compare(text, len);
         }
     }
-}
-
-/* Marsaglia's xorshift, from a fixed seed. */
-static uint64_t chance(void) {
-    static uint64_t state = 88172645463325252u;
-    state ^= state << 13;
-    state ^= state >> 7;
-    state ^= state << 17;
-    return state;
 }
 
 /* The marks of comments come often, and what ends the reading of a source seldom. */

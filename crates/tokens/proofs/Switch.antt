@@ -86,7 +86,7 @@ comment-same v w cs p = by-close (commentEnd width 0 cs q .closed) refl
     by-close false e h = of-end (open-same width 0 2 (omega arith) cs q e)
 
 -- what a template's reader answers: a template, or 19
-abbrev Templated : Read → Type 0
+abbrev pub Templated : Read → Type 0
 Templated (Got k) = numberOf (k .kind) ≡ 16
 Templated (Refused r) = r .number ≡ 19
 
@@ -95,7 +95,7 @@ module _ (R : Rules) (next : List ℕ → ℕ → Read) (a : ℕ) where
   on-templated (Got k) go g = g (k .span .end)
   on-templated (Refused r) go g = split (eqb (r .number) 19) (λ e. rw (e, Templated) refl) (λ e. rw (e, Templated) (g (r .reached)))
 
-  body-templated : (t : ℕ) (cs : List ℕ) (p l : ℕ) → Templated (bodyOf R next a t cs p l)
+  pub body-templated : (t : ℕ) (cs : List ℕ) (p l : ℕ) → Templated (bodyOf R next a t cs p l)
   unfolding bodyOf numberOf
   body-templated t [] p l = refl
   body-templated t (v ∷ cs) p l =

@@ -33,6 +33,15 @@ extern "C" {
         answer: *mut Answer,
     ) -> u32;
 
+    fn puffsatchel_findings(
+        source: *const u8,
+        source_len: usize,
+        reading: u32,
+        store: *mut u32,
+        store_len: usize,
+        answer: *mut Answer,
+    ) -> u32;
+
     fn puffsatchel_unescape(
         body: *const u8,
         body_len: usize,
@@ -122,6 +131,15 @@ pub(crate) fn outline(source: &[u8], reading: Reading, out: &mut [u8]) -> Answer
     Answered::of(|answer| {
         // SAFETY: reads one slice and writes the other, which is borrowed as mutable and so overlaps nothing.
         unsafe { puffsatchel_outline(source.as_ptr(), source.len(), number, out.as_mut_ptr(), out.len(), answer) }
+    })
+}
+
+pub(crate) fn findings(source: &[u8], reading: Reading, store: &mut [u32]) -> Answered {
+    let number = reading.number();
+
+    Answered::of(|answer| {
+        // SAFETY: reads one slice and writes the other, which is borrowed as mutable and so overlaps nothing.
+        unsafe { puffsatchel_findings(source.as_ptr(), source.len(), number, store.as_mut_ptr(), store.len(), answer) }
     })
 }
 

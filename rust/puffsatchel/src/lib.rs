@@ -17,7 +17,8 @@
 //! a reader thinks that they do.
 //!
 //! [`Lexer`] reads token by token. [`list`] puts all tokens into a lent store, three words each, in one call, which is
-//! the faster way; [`Tokens`] reads such a list. [`outline`] hides what stands inside strings, comments and templates,
+//! the faster way; [`Tokens`] reads such a list. [`findings`] tells what the writer of a source would want to know: comments
+//! that run on over a rule, and text that is in force though it looks like a comment. [`outline`] hides what stands inside strings, comments and templates,
 //! [`unescape`] reads the escapes of a literal's body, [`store`] and [`load`] carry a list to bytes and back, and a
 //! [`Lookahead`] answers what a parser asks of a list.
 
@@ -28,6 +29,7 @@
 #[allow(unsafe_code)]
 mod calls;
 mod code;
+mod findings;
 mod kind;
 mod lent;
 mod lexer;
@@ -38,6 +40,7 @@ mod refusal;
 mod texts;
 
 pub use self::code::Code;
+pub use self::findings::{findings, Finding, Findings};
 pub use self::kind::{Delimiter, Kind};
 pub use self::lexer::{read, test, Lexer, Span, Token};
 pub use self::lists::{list, load, store, Stopped, Tokens};
@@ -55,6 +58,12 @@ pub const WORDS_PER_TOKEN: usize = 3;
 /// The words of a store that is enough for every source, since a token is a byte or more.
 pub const LARGEST_LIST: usize = WORDS_PER_TOKEN * LARGEST_SOURCE;
 
+/// The words of a finding: its code's number, start and end of its token, start and end of its stretch.
+pub const FINDING_WORDS: usize = 5;
+
+/// The words of a store that is enough for what is found in any source: there are no more findings than bytes.
+pub const LARGEST_FINDINGS: usize = FINDING_WORDS * LARGEST_SOURCE;
+
 /// The bytes of a token in a stored list.
 pub const BYTES_PER_RECORD: usize = 11;
 
@@ -62,7 +71,7 @@ pub const BYTES_PER_RECORD: usize = 11;
 pub const LARGEST_STORED: usize = BYTES_PER_RECORD * LARGEST_SOURCE;
 
 /// The version of the face that this wrapper is written for.
-pub const VERSION: u32 = 4;
+pub const VERSION: u32 = 5;
 
 /// The version of the archive that is linked. Where it is not [`VERSION`], build wrapper and archive from one commit.
 #[must_use]

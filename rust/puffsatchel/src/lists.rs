@@ -10,10 +10,10 @@ use crate::reading::Reading;
 use crate::refusal::Refusal;
 use crate::WORDS_PER_TOKEN;
 
-/// A listing that stopped at a refusal.
+/// A listing, of tokens or of findings, that stopped at a refusal.
 #[derive(Debug, Clone, Copy, PartialEq, Eq)]
 pub struct Stopped {
-    /// The tokens before the refusal; they are in the store.
+    /// The tokens or the findings before the refusal; they are in the store.
     pub count: usize,
     /// Why it stopped.
     pub refusal: Refusal,
@@ -21,7 +21,7 @@ pub struct Stopped {
 
 impl fmt::Display for Stopped {
     fn fmt(&self, f: &mut fmt::Formatter<'_>) -> fmt::Result {
-        write!(f, "after {} tokens: {}", self.count, self.refusal)
+        write!(f, "after {} stored: {}", self.count, self.refusal)
     }
 }
 

@@ -46,7 +46,7 @@ fn listing_stops_and_keeps_what_it_stored() {
         assert_eq!((stopped.count, refused(stopped.refusal)), (2, (12, 2, 4)));
         assert_eq!(words[..6], [6, 0, 1, 1, 1, 2]);
         assert!(words[6..].iter().all(|&word| word == WORD));
-        assert_eq!(stopped.to_string(), format!("after 2 tokens: {}", stopped.refusal));
+        assert_eq!(stopped.to_string(), format!("after 2 stored: {}", stopped.refusal));
     }
 }
 

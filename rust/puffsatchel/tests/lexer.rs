@@ -208,5 +208,5 @@ fn every_code_says_what_and_what_to_do() {
 
 #[test]
 fn wrapper_and_archive_are_of_one_version() {
-    assert_eq!((version(), VERSION), (4, 4));
+    assert_eq!((version(), VERSION), (5, 5));
 }
