@@ -62,15 +62,17 @@ fn to(store: &[u32], n: usize) -> usize {
 
 // The number of a record's texts: a template that runs on has its own.
 fn number_of(s: &[u8], code: u32, start: usize) -> u32 {
-    if code == RUNS_ON || code == RUNS_ON_BLANK {
-        if text::byte_at(s, start) == b'`' {
-            return code % 100 + 100;
-        }
+    if text::byte_at(s, start) != b'`' {
+        return code;
     }
-    code
+    match code {
+        RUNS_ON => 160,
+        RUNS_ON_BLANK => 161,
+        _ => code,
+    }
 }
 
-// Records from one to before another, as one finding.
+// A record and those after it up to the last, as one finding.
 fn finding_of(s: &[u8], store: &[u32], n: usize, last: usize) -> Finding {
     let begun = start(store, n);
     Finding {
