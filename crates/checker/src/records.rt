@@ -14,6 +14,7 @@ use report::Finding;
 use token::Refusal;
 use token::refusal::NO_ROOM;
 use token::refusal::UNEXPECTED_CHAR;
+ghost use Prim.Native.Nat.{_≤_, _<_};
 
 // How much of the buffer waits, what was told, and the place of the last that was told: lines are counted from there on.
 pub(crate) struct Told {
