@@ -114,7 +114,7 @@ static void executed(unsigned cpu, void *data) {
     }
 }
 
-/* Of the call's bytes: e8 and the distance, behind 67 where the linker made it of a longer call. */
+/* Of the call's bytes: e8 and the distance, after 67 where the linker made it of a longer call. */
 static int calls_measured(const unsigned char *bytes, size_t size, uint64_t end, uint64_t moved) {
     int32_t distance;
     uint64_t target;

@@ -19,7 +19,7 @@ const WIDE_WORDS: [&str; 12] = [
     "取水口", "🌊🧊",
 ];
 
-/// A `/` comes with a `;`: another mark behind it could open a comment.
+/// A `/` comes with a `;`: another mark after it could open a comment.
 const OPERATORS: [&str; 50] = [
     "!", "#", "$", "%", "&", "(", ")", "*", "+", ",", "-", ".", "/;", ":", ";", "<", "=", ">", "?",
     "@", "[", "]", "^", "{", "|", "}", "~", "!=", "%=", "&&", "&=", "*=", "+=", "-=", "->", "..",

@@ -12,7 +12,7 @@ pub(crate) struct Refused {
 }
 
 impl Refused {
-    /// The place reached is the span's end, but for `''` right behind it, and its span goes to the end of the source.
+    /// The place reached is the span's end, but for `''` right after it, and its span goes to the end of the source.
     pub(crate) fn new(number: u32, start: usize, end: usize) -> Self {
         let reached = if number == 12 { start + 2 } else { end };
         Self { number, start, end, reached }

@@ -48,7 +48,7 @@ impl Bodies {
     fn accepted(&mut self, form: puffsatchel::Form, body: &[u8]) -> Result<(), Difference> {
         let count = self.wanted.len();
         let ours = unescape(form, body, count + self.turn % 3, &mut self.out);
-        self.out.rest_is_untouched("the bytes behind what the body stands for", count)?;
+        self.out.rest_is_untouched("the bytes after what the body stands for", count)?;
 
         if ours != Ok(count) || self.out.front(count) != self.wanted {
             let said = format!("  {ours:?} {}", self.out.front(count).escape_ascii());

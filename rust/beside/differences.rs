@@ -30,7 +30,7 @@ pub(crate) fn compare() -> Result<u64, Difference> {
         if depth <= 64 {
             one(&source, &whole, &whole, None)?;
         } else {
-            // Up to the 65th backtick stand 64 others, and a backslash behind each of them.
+            // Up to the 65th backtick stand 64 others, and a backslash after each of them.
             one(&source, &whole, &[], Some((19, 0, 129)))?;
         }
     }

@@ -13,7 +13,7 @@ pub(crate) enum Outside {
 
 pub(crate) const REASONS: [(Outside, &str); 4] = [
     (Outside::Number, "a number token"),
-    (Outside::NumberInTemplate, "a digit behind a backslash in a template"),
+    (Outside::NumberInTemplate, "a digit after a backslash in a template"),
     (Outside::Wide, "a scalar above U+024F where document 01 allows none"),
     (Outside::Deep, "a 65th template within templates"),
 ];
@@ -66,7 +66,7 @@ fn pairs(bytes: &[u8], next: impl Fn(u8) -> bool) -> usize {
     bytes.windows(2).filter(|pair| pair[0] == b'\\' && next(pair[1])).count()
 }
 
-/// That ours refused this very token, up to right behind a backtick that a backslash opened.
+/// That ours refused this very token, up to right after a backtick that a backslash opened.
 fn too_deep(text: &str, index: usize, ours: &Listed) -> bool {
     ours.refused.is_some_and(|refused| {
         refused.number == 19

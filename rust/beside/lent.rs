@@ -1,8 +1,8 @@
-//! Lent memory that tells afterwards what was written: filled with a pattern first, with a guard before and behind it.
+//! Lent memory that tells afterwards what was written: filled with a pattern first, with a guard before and after it.
 
 use crate::answers::Difference;
 
-/// Elements before and behind what is lent, which no call may know of.
+/// Elements before and after what is lent, which no call may know of.
 const GUARD: usize = 8;
 
 pub(crate) trait Element: Copy + PartialEq {

@@ -37,7 +37,7 @@ fn may_be_wide(kind: u32) -> bool {
     matches!(kind, 1..=5 | 9..=14 | 16)
 }
 
-/// The refused scalar is the one behind the last token, and all of it.
+/// The refused scalar is the one after the last token, and all of it.
 fn unexpected(source: &str, place: usize, span: (usize, usize)) -> Result<(), Difference> {
     let width = source[place..].chars().next().map_or(0, char::len_utf8);
 

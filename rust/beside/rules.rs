@@ -46,7 +46,7 @@ const BINARY: [&str; 24] = [
 
 const ASSIGN: [&str; 11] = ["=", "+=", "-=", "*=", "/=", "%=", "&=", "|=", "^=", "<<=", ">>="];
 
-/// `count` files, each with `copies` damaged copies behind it.
+/// `count` files, each with `copies` damaged copies after it.
 pub(crate) fn files(sink: &mut Sink, count: u64, copies: u64, seed: u64) -> io::Result<()> {
     let mut chance = Chance::new(seed);
 

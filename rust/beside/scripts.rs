@@ -78,7 +78,7 @@ impl Scripts {
             }
 
             let ours = call(&mut ahead, op, self.out.fresh(size + self.turn % 3));
-            self.out.rest_is_untouched("the store behind what a call writes", size)?;
+            self.out.rest_is_untouched("the store after what a call writes", size)?;
             let ours = ours.map(|numbers| Called { numbers, written: self.out.front(size).to_vec() });
             same(op, &Ok(wanted.clone()), &ours.map_err(|refusal| refusal.reason.number()))?;
         }

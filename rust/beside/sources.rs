@@ -172,7 +172,7 @@ impl Sources {
         Err(Difference::lists("the tokens one by one, beside the listing", &self.ours, &self.again))
     }
 
-    /// One token by itself, any of the list or what comes behind it; and a place past the end, refused by 4.
+    /// One token by itself, any of the list or what comes after it; and a place past the end, refused by 4.
     fn one_at_a_place(&self, source: &[u8]) -> Result<(), Difference> {
         let index = self.turn % (self.ours.count() + 1);
         let end = self.ours.end();
@@ -341,7 +341,7 @@ fn paint(source: &str, rust: &Listed, into: &mut Vec<u8>) {
     }
 }
 
-/// Whether a backtick closed this template: one that the source's end ended goes on into what is put behind it.
+/// Whether a backtick closed this template: one that the source's end ended goes on into what is put after it.
 fn is_shut(source: &str, start: usize, end: usize) -> bool {
     if end < source.len() {
         return true;

@@ -41,7 +41,7 @@ impl<T, F> Builder<T, F> {
         }
     }
 
-    /// One whose tokens go behind those given, into their room.
+    /// One whose tokens go after those given, into their room.
     pub fn over(tokens: Vec<(T, Span)>) -> Self {
         Self {
             tokens,

@@ -32,7 +32,7 @@ static uint32_t next_at(const char *text, size_t len, size_t at) {
 #define NEXT(text, at) next_at(text, sizeof(text) - 1, at)
 #define TEST(text) test(text, sizeof(text) - 1)
 
-/* A store of room words with more behind it, which no call may touch. */
+/* A store of room words with more after it, which no call may touch. */
 static uint32_t store[64];
 
 static uint32_t list(const char *text, size_t len, size_t room) {

@@ -15,13 +15,13 @@ fill('read_other', {
 
 
 def second(n):
-    """What the code knows of the scalar behind a `/` or a `b`."""
+    """What the code knows of the scalar after a `/` or a `b`."""
     w, place = f'(@second{n} .given .0 .0)', f'(@second{n} .given .0 .1 .0)'
     return f'$g$ noTemplate $a$ $s$ $at$ {w} {place} (step-one $s$ $at$ {w} {place} (sym (@scalar-at{n} .ensures) ∙ @second{n} .given .1))'
 
 
 def neither(c, law, place, other, otherwise):
-    """The ways past the mark c: it opens nothing with the scalar behind it, it is the last scalar, or (`other`) no such mark stands there."""
+    """The ways past the mark c: it opens nothing with the scalar after it, it is the last scalar, or (`other`) no such mark stands there."""
     there = 'step-one $s$ $at$ _ _ (sym (w .1 .ensures) ∙ w .3 .given .1)'
     last = 'step-none $s$ $at$ (sym (w .1 .ensures) ∙ w .3 .given .1)'
     return (f'⊎-elim (λ w. by-mark $f$ {c} (w .0 .taken) ({law}-other $g$ noTemplate $a$ $s$ $at$ _ _ ({there}) (w .5 .left) (w .6 .left)))'

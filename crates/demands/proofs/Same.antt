@@ -98,7 +98,7 @@ module _ (R : Rules) (n : ℕ) where
     out (halt r) v x p e = refl
     out (more k ts) v x p e = let f = tokens-first v x p k ts e in first-in k ts p (f .past) ∙ first-out R n tick (v ∷ x) p k (f .read)
 
-    -- .. and so does the one behind a `.`
+    -- .. and so does the one after a `.`
     second : (ts : Tokens) (v u : ℕ) (x : List ℕ) (p : ℕ) → v ≡ 46 → listed (v ∷ (u ∷ x)) p ≡ ts → insideAt ts (p + width v) ≡ false
     unfolding insideAt placeAfter
     second fin v u x p d e = refl

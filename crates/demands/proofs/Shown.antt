@@ -191,7 +191,7 @@ module _ (R : Rules) (n : ℕ) where
     pub next-shown : Shown cs p k
     next-shown = ⊎-elim plain-shown frame-shown (subst (λ (r : Read). Shaped (inBytes R) cs p r) e (next-shaped (inBytes R) n cs p))
 
-    -- the first scalar is not inside, and neither is any behind a `.` that the token starts with
+    -- the first scalar is not inside, and neither is any after a `.` that the token starts with
     pub first-out : insideToken k p ≡ false
     first-out =
         ⊎-elim (in-plain k p)

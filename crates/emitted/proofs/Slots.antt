@@ -65,7 +65,7 @@ module _ (size : ℕ) (r : Ring size) (ring : List ℕ) where
       ap₂ (λ (x : ℕ) (s : List ℕ). getD ring x 0 ∷ s) (r .again at)
       (sym (slots-mod (at % size + 1) n) ∙ ap (λ (k : ℕ). slots size ring k n) (r .onward at) ∙ slots-mod (at + 1) n)
 
-  -- a slot behind the n is written
+  -- a slot after the n is written
   slots-behind : (at n x : ℕ) → n < size → slots size (set ring ((at + n) % size) x) at n ≡ slots size ring at n
   slots-behind at n x h =
       slots-same size (set ring ((at + n) % size) x) ring at n

@@ -28,7 +28,7 @@ use Rattle.looks.specs.declared.state.Nums.{Nums}
 abbrev pub Real : List ℕ → Type 0
 Real l = (i : ℕ) → i < tokenCount l → kindAt l i ≤ 66
 
--- where more is to be read, nothing waits behind the last held token
+-- where more is to be read, nothing waits after the last held token
 pub record Tidy (l : List ℕ) (keep : Bool) (st : State) : Type 0 where
   pub asked : keeps (st .nums) ≡ keep
   pub even : st .nums .next < tokenCount l → total (countsOf st) ≡ st .nums .«wait_len»

@@ -15,7 +15,7 @@ use Rattle.looks.specs.Buffer.{State}
 use Rattle.looks.specs.Front.{waitWords}
 use Rattle.looks.specs.Numbered.{isWhite, kindAt, tokenAt}
 
--- before each held token as many that wait as it counts, and the rest behind the last
+-- before each held token as many that wait as it counts, and the rest after the last
 unfoldable pub weave : List ℕ → List ℕ → List ℕ → List ℕ
 weave [] hs ws = ws
 weave (c ∷ cs) [] ws = ws
@@ -49,7 +49,7 @@ unfolding range
 range-length i zero = refl
 range-length i (suc n) = ap suc (range-length (i + 1) n)
 
--- more waits behind the last
+-- more waits after the last
 pub weave-wait : (cs hs ws vs : List ℕ) → total cs ≤ length ws → weave cs hs (ws ++ vs) ≡ weave cs hs ws ++ vs
 unfolding weave total
 weave-wait [] hs ws vs h = refl
@@ -74,7 +74,7 @@ weave-push (c ∷ cs) (h ∷ hs) ws vs p w t n e =
     ∙ ap (λ (a : List ℕ). take c ws ++ h ∷ a) (weave-push cs hs (drop c ws) vs p w (omega arith) (omega arith) e)
     ∙ sym (append-assoc (take c ws) (h ∷ weave cs hs (drop c ws)) (vs ++ (p ∷ [])))
 
--- the first held token, behind what waits before it
+-- the first held token, after what waits before it
 pub weave-front : (c : ℕ) (cs : List ℕ) (h : ℕ) (hs front rest : List ℕ) → length front ≡ c → weave (c ∷ cs) (h ∷ hs) (front ++ rest) ≡ front ++ h ∷ weave cs hs rest
 unfolding weave
 weave-front c cs h hs front rest e = ap₂ (λ (a b : List ℕ). a ++ h ∷ weave cs hs b) (take-at front rest c e) (drop-at front rest c e)

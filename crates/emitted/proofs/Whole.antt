@@ -16,7 +16,7 @@ use Rattle.looks.specs.Numbered.{kindAt, tokenCount}
 use Rattle.looks.specs.Sound.{good, wholeBy}
 use Rattle.rows.specs.Rows.{listCheck, recordCheck, rowsCheck, rowsOf, wordRow}
 
--- a good first row, and good rows behind it
+-- a good first row, and good rows after it
 row-first : (k n last : ℕ) (s : List ℕ) → good (rowsCheck n last (rowsOf wordRow 3 (suc k) s)) ≡ true
     → (getD s 0 0 ≤ 66) × (last < getD s 2 0) × (good (rowsCheck (n + 1) (getD s 2 0) (rowsOf wordRow 3 k (drop 3 s))) ≡ true)
 unfolding rowsCheck rowsOf recordCheck

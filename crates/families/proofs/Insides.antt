@@ -1,4 +1,4 @@
--- What stands behind an opening mark, reader by reader. Assumes nothing.
+-- What stands after an opening mark, reader by reader. Assumes nothing.
 use Prim.Native.Nat.{ℕ, zero, suc, _+_}
 use mathlib.Core.Path.{_≡_, refl, sym, ap, _∙_, subst}
 use mathlib.Core.List.{List, [], _∷_, _++_, append-nil}
@@ -69,7 +69,7 @@ module _ (R : Rules) where
       split (eqb v 10) (λ h. rw (h, scan) (record { mid = []; back = v ∷ cs; whole = refl; ends = refl; fits = eqb-true v 10 h }))
       (λ h. rw (h, scan) (inner-more n lineForm v cs p (scan (runStep inLine) (R .wide) tt p cs (p + R .wide v) .place) (line-inner n cs p (p + R .wide v))))
 
-  -- what holds where a scan stopped behind a scalar: a family over states that each step keeps
+  -- what holds where a scan stopped after a scalar: a family over states that each step keeps
   module _ {S : Type 0} (step : S → ℕ → List ℕ → Act S) (C : S → List ℕ → ℕ → ℕ → Type 0) where
     abbrev Keeps : S → ℕ → List ℕ → ℕ → Act S → Type 0
     Keeps s v cs p (on t) = (e : ℕ) → C t cs (p + R .wide v) e → C s (v ∷ cs) p e
@@ -94,7 +94,7 @@ module _ (R : Rules) where
           split (eqb v 34) (λ i. rw (i, strStep) (inner-shut n (stringForm b e) 34 v cs p refl tt (eqb-true v 34 i)))
           (λ i. split (eqb v 92) (λ j. rw (i, j, strStep) (inner-more n (stringForm b e) v cs p)) (λ j. rw (i, j, strStep) (inner-more n (stringForm b e) v cs p)))
 
-  -- a comment: behind a star, the star belongs to what is looked at
+  -- a comment: after a star, the star belongs to what is looked at
   abbrev Closed : Closing → List ℕ → ℕ → ℕ → Type 0
   Closed (skips k) cs p e = Inner k (commentForm true) cs p e
   Closed starred cs p e = (q : ℕ) → p ≡ q + R .wide 42 → Inner 0 (commentForm true) (42 ∷ cs) q e
@@ -121,7 +121,7 @@ module _ (R : Rules) where
           (λ i. split (eqb v 42) (λ j. rw (i, j, commentStep) (λ e k q z. before-star (v ∷ cs) p e q z (star-cons v cs p e (eqb-true v 42 j) k)))
           (λ j. rw (i, j, commentStep) (λ e k q z. before-star (v ∷ cs) p e q z (inner-more 0 (commentForm true) v cs p e k))))
 
-  -- a scan that no scalar stops, and that stopped behind none, goes to the end
+  -- a scan that no scalar stops, and that stopped after none, goes to the end
   abbrev Unshort : {S : Type 0} → Act S → Type 0
   Unshort (on t) = Unit
   Unshort (before t) = ⊥

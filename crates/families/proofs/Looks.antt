@@ -28,7 +28,7 @@ use Rattle.token.specs.declared.kind.Known.{Known}
 use Rattle.token.specs.declared.kind.Known.the-variants.{Is, Unknown}
 use Rattle.token.specs.declared.read.Read.{Read}
 
--- a step looks at its scalar, and behind a `.` at one more
+-- a step looks at its scalar, and after a `.` at one more
 abbrev pub Looks : {S : Type 0} → (S → ℕ → List ℕ → Act S) → Type 0
 Looks {S} step = (s : S) (v : ℕ) (x y : List ℕ) → (v ≡ 46 → Head x y) → step s v y ≡ step s v x
 
@@ -128,7 +128,7 @@ module _ (R : Rules) (sane : Sane R) where
     unfolding charOf
     char-local = reader-local charStep char-looks (letters true false) (λ p o. charAnswer a (o .state) (o .last) (o .place)) (λ p o. char-reached R a [] 0 (o .state) (o .last) (o .place))
 
-  -- operators: of two scalars behind the first, both are asked for only where the first two are an operator
+  -- operators: of two scalars after the first, both are asked for only where the first two are an operator
   module _ (v : ℕ) where
     -- two that are no operator leave one
     op-short : (w : ℕ) (cs : List ℕ) (p : ℕ) → lookTwo twos v w ≡ Unknown → operatorOf (R .wide) v (w ∷ cs) p ≡ findOne v p

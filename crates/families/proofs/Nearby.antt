@@ -1,4 +1,4 @@
--- Laws of what is near, and of a front with near scalars behind it. Assumes nothing.
+-- Laws of what is near, and of a front with near scalars after it. Assumes nothing.
 use Prim.Native.Nat.{ℕ}
 use mathlib.Core.Path.{_≡_, refl, sym, ap}
 use mathlib.Core.List.{List, [], _∷_, _++_}

@@ -23,7 +23,7 @@ use Rattle.token.specs.Reads.{gotOf}
 use Rattle.token.specs.declared.kind.Kind.the-variants.{Comment, MultilineComment, Template}
 use Rattle.token.specs.declared.read.Read.{Read}
 
--- near scalars behind it and at least as many x as there were scalars fit where the inside did
+-- near scalars after it and at least as many x as there were scalars fit where the inside did
 pub near-fits : (n : ℕ) (form : Form) (mid back : List ℕ) (j : ℕ) (y : List ℕ) → Fits n form mid back → length mid ≤ j → Near back y → Fits n form (xs j) y
 near-fits n lineForm mid [] j [] f l h = tt
 near-fits n lineForm mid [] j (w ∷ y) f l h = absurd h
@@ -58,7 +58,7 @@ module _ (R : Rules) where
   body-xs next a zero x p = refl
   body-xs next a (suc j) x p = rw (le-ltb p 0 (omega arith), bodyOf) (body-xs next a j x (p + R .wide 120))
 
-  -- the readers, from behind an opening mark on
+  -- the readers, from after an opening mark on
   module _ (a j : ℕ) (p : ℕ) where
     line-painted : (x : List ℕ) → LineEnd x → lineOf (R .wide) Comment a (xs j ++ x) p ≡ gotOf Comment a (placeAfter (R .wide) (xs j) p)
     unfolding lineOf run scan

@@ -1,4 +1,4 @@
--- An accepted token with an inside, its inside painted and other scalars behind it: the same kind up to the escape mark, the same span. Assumes nothing.
+-- An accepted token with an inside, its inside painted and other scalars after it: the same kind up to the escape mark, the same span. Assumes nothing.
 use Prim.Native.Nat.{ℕ, zero, suc, _+_, _≤_}
 use mathlib.Core.Path.{_≡_, refl, sym, ap, _∙_}
 use mathlib.Core.List.{List, [], _∷_}

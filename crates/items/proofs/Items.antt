@@ -69,7 +69,7 @@ only-low (Item x n) = pick-by Low (leb x 0x7f) (Item x n) (Bad 23 n) (λ h. leb-
 only-low (Skipped n) = tt
 only-low (Bad number n) = tt
 
--- behind the brace at p: a scalar, with a digit still to come or not, and the other brace
+-- after the brace at p: a scalar, with a digit still to come or not, and the other brace
 abbrev Digits : Bool → ℕ → Escape → Type 0
 Digits b p (Item x n) = (isScalar x ≡ true) × (p + pick b 1 2 ≤ n)
 Digits b p (Skipped n) = Unit {0}
@@ -216,7 +216,7 @@ module _ (form : Form) (p : ℕ) where
 fits-later : (form : Form) (a b x n : ℕ) → a ≤ b → Fits form b x n → Fits form a x n
 fits-later form a b x n l f = record { room = omega (arith, f .room); scalar = f .scalar; byte = f .byte }
 
--- the item of an escape fits behind its backslash, which stands at a
+-- the item of an escape fits after its backslash, which stands at a
 pub escape-fits : (form : Form) (a v : ℕ) (cs : List ℕ) (x n : ℕ) → v ≡ 0x5c → itemOf form v cs (a + width v) ≡ Item x n → Fits form (a + 1) x n
 unfolding itemOf
 escape-fits form a v cs x n e h =

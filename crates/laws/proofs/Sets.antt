@@ -1,4 +1,4 @@
--- Two stretches stored one behind the other are one. Assumes nothing.
+-- Two stretches stored one after the other are one. Assumes nothing.
 use Prim.Native.Nat.{ℕ, suc, _+_}
 use mathlib.Core.Path.{_≡_, ap}
 use mathlib.Core.List.{List, [], _∷_, _++_}

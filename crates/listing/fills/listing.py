@@ -21,7 +21,7 @@ fill('list_tokens', {
     'put-requires-2': '(omega (arith, @loop .inv), omega (arith, @loop .inv, @Start .pre), omega (arith, list-room $h$ $k$ (@if3 .left), @Start .pre))',
     'loop-less-2': 'omega (arith, list-past $h$ $k$ (@if3 .left), list-room $h$ $k$ (@if3 .left))',
     'loop-again-2': 'list-more $h$ $k$ (@if3 .left) (@number-of .result) (@number-of .ensures) _ (@put2 .ensures) (@if4 .left)'},
-    macros=M, head='The invariant: what is left to list gives the answer, and written behind what is stored it gives the store. Assumes nothing.')
+    macros=M, head='The invariant: what is left to list gives the answer, and written after what is stored it gives the store. Assumes nothing.')
 W = {'s': '(@Start .args .s .now)', 'g': '(@Start .args .reading)', 'o': '(@Start .args .store .now)', 'r': '(length $o$)'}
 
 

@@ -1,4 +1,4 @@
--- One turn of the listing: what is left to list gives the answer, and written behind what is stored it gives the store. Assumes nothing.
+-- One turn of the listing: what is left to list gives the answer, and written after what is stored it gives the store. Assumes nothing.
 use Prim.Native.Nat.{ℕ, suc, _+_, _-_, _≤_, _<_}
 use mathlib.Core.Path.{_≡_, refl, sym, ap, _∙_, subst}
 use mathlib.Core.List.{List, [], _∷_}

@@ -33,4 +33,4 @@ fill('emit/put_waiting', {
     'put-words-requires': '$room$', 'mul-put-words': '$room$', 'add-put-words': '$room$',
     'loop-again': 'puts-more $p$ (@loop .out) (@loop .i) (@loop .inv) (@loop-test .taken) _ (@put-words .ensures ∙ ap (sets (@loop .out) (@Start .args .at + @loop .i * 3)) (@token-at .ensures ∙ ap (λ (s : ℕ). tokenAt $l$ (getD (@Start .args .waiting .now) s 0)) (@slot256 .ensures)))',
     'same-length': '@loop .inv .same',
-    'returns': 'puts-end $p$ (@loop .out) (@loop .i) (@loop .inv) (@loop-test .left)'}, macros=P, head='The invariant: what is left, written behind what is stored, gives the whole. Assumes nothing.')
+    'returns': 'puts-end $p$ (@loop .out) (@loop .i) (@loop .inv) (@loop-test .left)'}, macros=P, head='The invariant: what is left, written after what is stored, gives the whole. Assumes nothing.')

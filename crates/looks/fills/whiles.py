@@ -21,7 +21,7 @@ fill('whiles/plan_while', {
     'add-count': '$small$', 'add-count-2': '$small$',
     'loop-less': 'rw $e$ (fewer $x$ (@if1 .left) (@if2 .left) .0)',
     'loop-again': 'rw $e$ (plannable-after $x$ (@if1 .left) (@if2 .left), λ w. turn-more $x$ $t$ (@if1 .left) (@if2 .left) (@if3 .left))'}, macros=P,
-    head='The invariant: a real state stands behind the numbers, and its plan is the plan from the start. Assumes nothing.')
+    head='The invariant: the numbers are those of a real state, and its plan is the plan from the start. Assumes nothing.')
 W = {'w': '(@Start .args .nums .now)', 'l': '(@Start .args .list .now)', 'k': '(@Start .args .kind)', 'm': '(numsOf $w$)'}
 fill('whiles/goes_on', {
     'returns': 'let z : ltb 0 ($m$ .«held_len») ≡ false = le-ltb 0 ($m$ .«held_len») (omega (arith, @if1 .taken)) in rw z',
@@ -49,7 +49,7 @@ fill('whiles/run_while', {
     'loop-again': 'λ n e. rw (@wide .ensures .0) (running-more $l$ $k$ _ $o$ (@loop .out) $f$ (@loop .at) (@loop .inv n e) $goes$ _ _ _ _ $white$ (@nth-words .ensures) $filled$ (@emit-front .ensures .1))',
     'same-length': '$inv$ .same',
     'returns': 'let e = running-end $l$ $k$ _ $o$ (@loop .out) $f$ (@loop .at) $inv$ (sym (@goes-on .ensures) ∙ @if1 .left) in (e .0 ∙ ap (λ (s : State). runOf $l$ $k$ $n$ s .state) (@refill .ensures), e .1 ∙ ap (λ (s : State). sets $o$ 0 (runOf $l$ $k$ $n$ s .written)) (@refill .ensures))'}, macros=V,
-    head='The invariant: the run from here on, behind what is stored, is the whole run. Assumes nothing.')
+    head='The invariant: the run from here on, after what is stored, is the whole run. Assumes nothing.')
 fill('whiles/is_some', {
     'returns': 'rw (lt-ltb 0 (@Start .args .count) (@if1 .taken))',
     'returns-2': 'rw (le-ltb 0 (@Start .args .count) (@if1 .left))'})

@@ -62,7 +62,7 @@ module _ (w : ℕ) (m : Nums) (h : m .«held_len» ≡ 0 → ⊥) where
   unfolding lessHeld lessWaiting
   less-facts = let e = ne-eqb (m .«held_len») 0 h in (rw e, rw e, rw e)
 
--- what is left of the tokens, behind what is stored, gives the whole
+-- what is left of the tokens, after what is stored, gives the whole
 pub record Advancing (l : List ℕ) (n : ℕ) (st : State) (out₀ out : List ℕ) (m : Nums) (at left : ℕ) : Type 0 where
   pub state : advanced left (withNums m st) ≡ advanced n st
   pub stores : sets out at (advanceWords l left (withNums m st)) ≡ sets out₀ 0 (advanceWords l n st)

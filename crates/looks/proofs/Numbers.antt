@@ -61,6 +61,6 @@ module _ (l : List ℕ) where
       (λ w. let h = dark-reach n (i + 1) in rw w (omega arith, omega arith))
       (λ w. rw w (omega arith, omega arith))
 
-  -- the place lies behind i, and not behind the list's end unless i does
+  -- the place lies past i, and not past the list's end unless i does
   pub dark-bound : (i : ℕ) → i ≤ tokenCount l → (i ≤ dark l i) × (dark l i ≤ tokenCount l)
   dark-bound i h = let r = dark-reach (tokenCount l - i) i in (r .0, omega arith)

@@ -127,7 +127,7 @@ run-length l kind (suc n) f =
     rw g (omega arith))
     (λ g. rw g)
 
--- the run from here on, behind what is stored, is the whole run
+-- the run from here on, after what is stored, is the whole run
 pub record Running (l : List ℕ) (kind : ℕ) (run : Run) (out₀ out : List ℕ) (f : State) (at : ℕ) : Type 0 where
   pub left : ℕ
   pub enough : tokensLeft l (f .nums) ≤ left

@@ -21,7 +21,7 @@ unfolding waitWords
 wait-length zero l ring at = refl
 wait-length (suc n) l ring at = let h = wait-length n l ring (at + 1) in omega arith
 
--- the tokens so far: what is left of them, behind what is written, gives the whole
+-- the tokens so far: what is left of them, after what is written, gives the whole
 pub record Puts (l ring out₀ out : List ℕ) (from count at i : ℕ) : Type 0 where
   pub same : length out ≡ length out₀
   pub stores : sets out (at + i * 3) (waitWords (count - i) l ring (from + i)) ≡ sets out₀ at (waitWords count l ring from)

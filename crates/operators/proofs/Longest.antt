@@ -1,4 +1,4 @@
--- Operators: the code reads two characters first, and a third only behind two that are an operator. Assumes nothing.
+-- Operators: the code reads two characters first, and a third only after two that are an operator. Assumes nothing.
 use Prim.Native.Nat.{ℕ, _+_}
 use mathlib.Core.Path.{_≡_, refl, sym, ap, _∙_}
 use mathlib.Core.List.{List, [], _∷_}

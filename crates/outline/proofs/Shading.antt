@@ -1,4 +1,4 @@
--- Painting piece by piece, as the code does: what is left to paint, written behind what is painted, gives the buffer. Assumes nothing.
+-- Painting piece by piece, as the code does: what is left to paint, written after what is painted, gives the buffer. Assumes nothing.
 use Prim.Native.Nat.{ℕ, suc, _+_, _-_, _≤_, _<_}
 use mathlib.Core.Path.{_≡_, refl, sym, ap, _∙_}
 use mathlib.Core.List.{List, [], _∷_, _++_}

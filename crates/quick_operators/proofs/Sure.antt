@@ -31,7 +31,7 @@ use Rattle.token.specs.declared.kind.Kind.{Kind}
 use Rattle.token.specs.declared.kind.Known.{Known}
 use Rattle.token.specs.declared.kind.Known.the-variants.{Is, Unknown}
 
--- a byte of a row: ASCII, and not the 0 that stands behind the end
+-- a byte of a row: ASCII, and not the 0 that stands after the end
 abbrev pub inRow : ℕ → Bool
 inRow b = within 1 127 b
 
@@ -134,7 +134,7 @@ module _ (s : List ℕ) where
         let u = row-step (i + 1) (r .2) in
         rw (t .here, u .here) (ap (foundAt (lookThree threes a (getD s i 0) (getD s (i + 1) 0))) (omega (arith, t .next, u .next))))
 
--- what is found by three bytes: at a place of a source it ends as far behind as it is long
+-- what is found by three bytes: at a place of a source it ends as far on as it is long
 record Told (a b c : ℕ) (k : Kind) (n : ℕ) : Type 0 where
   front : opens a ≡ true
   some : 0 < n
@@ -182,7 +182,7 @@ module _ (g : Reading) (s : List ℕ) (at : ℕ) where
       let whole : gotOf k at e ≡ tokenOf (rulesOf g) 64 (rest s at) at = h ∙ token-plain g 64 s at (getD s at 0) (at + 1) here v in
       ap (closeSpan (length s)) whole ∙ later-token g s at (rw (here .here, ne-eqb (getD s at 0) 35 u, both-false))
 
-  -- an operator behind a first byte that is not `#` or `/` is what the reader reads
+  -- an operator after a first byte that is not `#` or `/` is what the reader reads
   token-next : (k : Kind) (n : ℕ) → Told (getD s at 0) (getD s (at + 1) 0) (getD s (at + 2) 0) k n → (getD s at 0 ≡ 35 → ⊥) → (getD s at 0 ≡ 47 → ⊥) → gotOf k at (at + n) ≡ nextAt g s at
   unfolding operatorOf findOne
   token-next k n t u v =

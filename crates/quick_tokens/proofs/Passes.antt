@@ -29,7 +29,7 @@ module _ (f : ℕ → Bool) (s : List ℕ) (p : ℕ) where
   unfolding passing
   pass-next h e = rw (add-one p, drop-cons s p 0 h) (rw (e, passing))
 
--- a test on bytes, which ASCII alone pass, and one on scalars, which they pass too: where the byte behind a run is ASCII and passes neither, the runs are the same
+-- a test on bytes, which ASCII alone pass, and one on scalars, which they pass too: where the byte after a run is ASCII and passes neither, the runs are the same
 module _ (f g : ℕ → Bool) (low : (v : ℕ) → g v ≡ true → v ≤ 127) (yes : (v : ℕ) → g v ≡ true → f v ≡ true) (s : List ℕ) where
   scan-bytes : (k p l : ℕ) → length (passing g (drop p s)) ≡ k → getD s (p + k) 0 ≤ 127 → (g (getD s (p + k) 0) ≡ false → f (getD s (p + k) 0) ≡ false)
       → p + k ≡ scan (runStep f) width tt l (rest s p) p .place

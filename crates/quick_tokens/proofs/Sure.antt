@@ -125,7 +125,7 @@ module _ (g : Reading) (s : List ℕ) (at : ℕ) where
       let reads = first-next g s at Whitespace end (within-yes 1 127 a (lo .0) (omega (arith, lo .1))) (λ z. omega (arith, lo .1)) (λ z. omega (arith, lo .1)) white in
       subst (Told g s at) (sym (t .1)) (record { kind = Whitespace; number = refl; past = omega arith; reads = reads })
 
-  -- behind `b` stands no quote
+  -- after `b` stands no quote
   behind-b : (e : ℕ) → e ≡ at + 1 + length (passing inNumber (drop (at + 1) s)) → either (eqb (getD s e 0) 34) (eqb (getD s e 0) 39) ≡ false → getD s e 0 ≤ 127
       → otherOf (rulesOf g) noTemplate 98 at cs (at + 1) ≡ firstOf (rulesOf g) noTemplate 98 at cs (at + 1)
   behind-b e ee nq lo =

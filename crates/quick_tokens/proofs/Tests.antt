@@ -27,7 +27,7 @@ module _ (c e : ℕ) where
     pub blank-some : (c ≡ 11 → ⊥) → (c ≡ 12 → ⊥) → record { number = 1; end = e } ≡ blankBy c e
     blank-some k l = rw (le-ltb 127 c h, ne-eqb c 11 k, ne-eqb c 12 l)
 
--- a quote behind `b`
+-- a quote after `b`
 abbrev pub quotes : ℕ → ℕ → Bool
 quotes a c = both (eqb a 98) (either (eqb c 34) (eqb c 39))
 

@@ -49,7 +49,7 @@ module _ {S : Type 0} (step : S → ℕ → List ℕ → Act S) (st : S) (s : Li
     pub goes-behind : (st′ : S) → step st v (rest s n) ≡ behind st′ → stopAt st′ p n full ≡ o
     goes-behind st′ e = scan-behind step st (g .0) s p v n t st′ e ∙ g .1
 
-    -- the end behind a scalar that the step went on over: the last scalar read stands at p
+    -- the end after a scalar that the step went on over: the last scalar read stands at p
     pub goes-cut : (st′ : S) → step st v (rest s n) ≡ on st′ → rest s n ≡ [] → stopAt st′ p n ended ≡ o
     goes-cut st′ e z = scan-end step st′ p s n z ∙ scan-on step st (g .0) s p v n t st′ e ∙ g .1
 

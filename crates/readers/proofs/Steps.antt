@@ -106,7 +106,7 @@ module _ (l m : Bool) (v : ℕ) (cs : List ℕ) where
           unfolding charStep
           char-other h = rw (ne-eqb v 92 n, ne-eqb v 39 q, k, i, h, charStep)
 
--- the last place counts only behind a backslash, and a closed char answers as one that ended with its label lost
+-- the last place counts only after a backslash, and a closed char answers as one that ended with its label lost
 pub answer-last : (a : ℕ) (l m : Bool) (p q e : ℕ) → charAnswer a (letters l m) p e ≡ charAnswer a (letters l m) q e
 answer-last a true true p q e = refl
 answer-last a true false p q e = refl

@@ -1,4 +1,4 @@
--- Rows written one behind the other into a lent slice, and the room that they need. Assumes nothing.
+-- Rows written one after the other into a lent slice, and the room that they need. Assumes nothing.
 use Prim.Native.Nat.{ℕ, _+_, _-_, _/_, _%_, _≤_, _<_}
 use mathlib.Core.Path.{_≡_, refl, sym, ap, _∙_}
 use mathlib.Core.List.{List, [], _∷_, _++_}
@@ -23,7 +23,7 @@ pub record Layout (put : List Row → List ℕ) (one : Row → List ℕ) (each :
   pub cons : (r : Row) (rs : List Row) → put (r ∷ rs) ≡ one r ++ put rs
   pub long : (r : Row) → length (one r) ≡ each
 
--- the rows so far: what is left of them, behind what is written, gives the whole
+-- the rows so far: what is left of them, after what is written, gives the whole
 pub record Writes (put : List Row → List ℕ) (row : List ℕ → Row) (size : ℕ) (s out₀ out : List ℕ) (from at : ℕ) : Type 0 where
   pub stores : sets out at (put (rowsFrom row size s from)) ≡ sets out₀ 0 (put (rowsOf row size (length s / size) s))
   pub whole : (length s - from) % size ≡ 0

@@ -30,7 +30,7 @@ module _ (row : List ℕ → Row) (size : ℕ) (s : List ℕ) where
   unfolding rowsFrom rowsOf
   rows-more at h = rw (h, rowsOf) (ap (λ (l : List ℕ). row (drop at s) ∷ rowsOf row size ((length s - (at + size)) / size) l) (drop-drop size at s))
 
--- a row of the given size stands whole before the end n, with whole rows behind it
+-- a row of the given size stands whole before the end n, with whole rows after it
 pub record Left (size n at : ℕ) : Type 0 where
   pub room : at + size ≤ n
   pub more : (n - at) / size ≡ suc ((n - (at + size)) / size)

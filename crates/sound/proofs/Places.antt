@@ -21,7 +21,7 @@ unfolding isPlace
 place-before [] p at h = ne-eqb p at (omega arith)
 place-before (v ∷ cs) p at h = rw (ne-eqb p at (omega arith)) (place-before cs (p + width v) at (omega arith))
 
--- the bytes of a scalar behind its first one are tails, and the first is none
+-- the bytes of a scalar after its first one are tails, and the first is none
 module _ (s : List ℕ) (p v n : ℕ) (t : Step s p v n) where
   whole-at : (e : ℕ) × ((p + suc e ≡ n) × Whole (getD s p 0) (getD s (p + 1) 0) (getD s (p + 2) 0) (getD s (p + 3) 0) v e)
   whole-at =

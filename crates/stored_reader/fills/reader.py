@@ -27,7 +27,7 @@ fill('put_words', {
     'add-out-2': room, 'mul-out-3': room, 'slice-write-out-3': wide_room, 'add-from': near, 'add-at': room, 'loop-less': near,
     'loop-again': 'writes-more $w$ $l$ _ (token-stores $s$ (@loop .out) $at$ $from$ (@wide .ensures) (@word-at .ensures) (@word-at2 .ensures))',
     'same-length': '@loop .inv .same', 'returns': 'writes-end $w$ (omega (arith, @loop-test .left))'},
-    macros=Q, head='The invariant: what is left, written behind what is stored, gives the whole. Assumes nothing.')
+    macros=Q, head='The invariant: what is left, written after what is stored, gives the whole. Assumes nothing.')
 A = {'s': '(@Start .args .bytes .now)', 'o': '(@Start .args .out .now)', 'out': '(listWords (storedRows $s$))', 'n': '(length-tokens byteRow 11 (length $s$ / 11) $s$)',
      'sound': '(sym (@check-bytes .ensures) ∙ @enum-told .given .1)', 'w': '(length $o$) (bytesCheck $s$) $out$'}
 opened = 'readOf readBy'

@@ -49,7 +49,7 @@ module _ (s : List ℕ) (p n last : ℕ) where
       → recordCheck n last k a b ≡ rowCheck n last (byteRow (drop p s))
   bytes-row k a b e f g h i = rw (e, f, g, first-drop s p, at-drop s p 1, at-drop s p 2, word-drop s p 3, word-drop s p 7, eq-eqb _ _ h, eq-eqb _ _ i)
 
--- tokens one behind the other
+-- tokens one after the other
 pub tokens-layout : Layout listWords tokenWords 3
 unfolding listWords
 tokens-layout = record { nil = refl; cons = λ r rs. refl; long = λ r. refl }

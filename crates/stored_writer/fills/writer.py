@@ -19,7 +19,7 @@ fill('put_records', {
     'put-record-requires': 'writes-room $w$ $l$', 'add-from': near, 'add-at': room, 'loop-less': near,
     'loop-again': 'writes-more $w$ $l$ _ (@put-record .ensures ∙ ap (sets (@loop .out) $at$) (list-record $s$ $from$))',
     'same-length': '@loop .inv .same', 'returns': 'writes-end $w$ (omega (arith, @loop-test .left))'},
-    macros=P, head='The invariant: what is left, written behind what is stored, gives the whole. Assumes nothing.')
+    macros=P, head='The invariant: what is left, written after what is stored, gives the whole. Assumes nothing.')
 A = {'s': '(@Start .args .list .now)', 'o': '(@Start .args .out .now)', 'out': '(recordsOf (listRows $s$))', 'n': '(length-records wordRow 3 (length $s$ / 3) $s$)',
      'sound': '(sym (@check-list .ensures) ∙ @enum-told .given .1)', 'w': '(length $o$) (listCheck $s$) $out$'}
 opened = 'writeOf writtenBy'

@@ -26,7 +26,7 @@ length-records row size (suc n) s = let h = length-records row size n (drop size
 pub list-record : (s : List ℕ) (p : ℕ) → recordOf (getD s p 0) (getD s (p + 1) 0) (getD s (p + 2) 0) ≡ recordIn (wordRow (drop p s))
 list-record s p = rw (first-drop s p, at-drop s p 1, at-drop s p 2)
 
--- stores one behind the other
+-- stores one after the other
 pub word-stores : (out : List ℕ) (p w : ℕ) {a b c d : ℕ} → a ≡ w % 256 → b ≡ w / 256 % 256 → c ≡ w / 65536 % 256 → d ≡ w / 16777216 % 256
     → set (set (set (set out p a) (p + 1) b) (p + 2) c) (p + 3) d ≡ sets out p (u32Bytes w)
 word-stores out p w ea eb ec ed =

@@ -86,7 +86,7 @@ module _ (g : Reading) (next : List ℕ → ℕ → Read) (a : ℕ) (s : List �
     unfolding turnOf
     body-token h = rw body-turn (rw (ne-eqb v 96 (omega arith), ne-eqb v 123 (omega arith), ne-eqb v 125 (omega arith), eq-eqb v 92 h, turnOf))
 
--- behind a token r that a backslash at p read, in a template within which d more may open
+-- after a token r that a backslash at p read, in a template within which d more may open
 module _ (g : Reading) (d a : ℕ) (s : List ℕ) (p l v n : ℕ) (t : Step s p v n) (h : v ≡ 92) (r : Read) (er : r ≡ tokenOf (rulesOf g) d (rest s n) n) where
   inner-lands : Lands (rulesOf g) (rest s n) n (reachedOf r)
   inner-lands = rw er (token-lands (rulesOf g) d (rest s n) n)

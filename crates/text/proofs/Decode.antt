@@ -165,7 +165,7 @@ module _ (s : List ℕ) (at : ℕ) (h : at < length s) (hi : 0x7f < getD s at 0)
   at-whole : (v e : ℕ) → first (drop at s) ≡ seq v e → Whole (getD s at 0) (getD s (at + 1) 0) (getD s (at + 2) 0) (getD s (at + 3) 0) v e
   at-whole v e q = lead-whole _ _ _ _ v e (sym (first-at s at h) ∙ q)
 
-  -- only a first byte below 0x80 has no other byte behind it
+  -- only a first byte below 0x80 has no other byte after it
   longer : (v e : ℕ) → first (drop at s) ≡ seq v e → 1 ≤ e
   longer v e q =
       split-eq e 0
@@ -185,7 +185,7 @@ module _ (s : List ℕ) (at : ℕ) (h : at < length s) (hi : 0x7f < getD s at 0)
       let ee : at + suc e ≡ at + n = ap (λ (k : ℕ). at + k) (sym (en ∙ at-whole v e q .steps (longer v e q))) in
       subst (λ (p : ℕ × ℕ). Step s at (p .0) (p .1)) (λ i. (ev i, ee i)) (step-first s at v e q))
 
--- the scalar behind the first
+-- the scalar after the first
 pub second-none : (s : List ℕ) (at : ℕ) → rest s at ≡ [] → None ≡ secondAt s at
 unfolding secondAt secondOf
 second-none s at e = rw e

@@ -1,4 +1,4 @@
--- The token list at a place of a source: it ends, halts, or goes on behind a token. Assumes nothing.
+-- The token list at a place of a source: it ends, halts, or goes on after a token. Assumes nothing.
 use Prim.Native.Nat.{ℕ, _+_, _≤_, _<_}
 use mathlib.Core.Path.{_≡_, refl, sym, ap, _∙_, subst}
 use mathlib.Core.List.{List, [], _∷_}

@@ -86,7 +86,7 @@ module _ (s : List ℕ) (at : ℕ) where
         ap₂ Item (o .item) (omega (arith, o .place))
         ∙ close-yes some x (at + (i + 1)) (o .digits) (o .scalar) ∙ digits-close s (at + i) v (at + (i + 1)) t some x h ∙ g .same
 
--- what stands behind a backslash at a place
+-- what stands after a backslash at a place
 module _ (form : Form) (s : List ℕ) (at v : ℕ) (q : v ≡ escapedAt s at) (l : v ≤ 0x7f) (h : v ≡ 0 → ⊥) where
   found : (getD s at 0 ≡ 0x5c) × (v ≡ getD s (at + 1) 0) × (at + 1 < length s)
   found = escaped-inv s at v q h

@@ -10,7 +10,7 @@ use Rattle.encoding.specs.Encode.{padded}
 use Rattle.encoding.specs.declared.Encoded.{Encoded}
 use Rattle.laws.specs.Bools.{same}
 
--- four bytes, of which the first are those of a list, and 0 behind
+-- four bytes, of which the first are those of a list, and 0 after
 module _ (l : List ℕ) (h : length l ≤ 4) (r : Encoded) (e : r ≡ padded l) where
   pub padded-len : r .len ≡ length l
   padded-len = ap (λ (x : Encoded). x .len) e

@@ -1,4 +1,4 @@
--- The invariant: what is left to list gives the answer, and written behind what is stored it gives the store. Assumes nothing.
+-- The invariant: what is left to list gives the answer, and written after what is stored it gives the store. Assumes nothing.
 use Prim.Native.Nat.{_-_}
 use mathlib.Core.Path.{_∙_}
 use native.Mathlib.Omega.{arith}

@@ -1,4 +1,4 @@
--- The invariant: what is left, written behind what is stored, gives the whole. Assumes nothing.
+-- The invariant: what is left, written after what is stored, gives the whole. Assumes nothing.
 use Prim.Native.Nat.{_-_}
 use native.Mathlib.Omega.{arith}
 use borrow.Author.Needs.{needs}

@@ -1,4 +1,4 @@
--- The invariant: a real state stands behind the numbers, and its plan is the plan from the start. Assumes nothing.
+-- The invariant: the numbers are those of a real state, and its plan is the plan from the start. Assumes nothing.
 use mathlib.Core.Path.{ap, _∙_}
 use mathlib.Core.List.{[]}
 use native.Mathlib.Omega.{arith}

@@ -1,4 +1,4 @@
--- The invariant: the run from here on, behind what is stored, is the whole run. Assumes nothing.
+-- The invariant: the run from here on, after what is stored, is the whole run. Assumes nothing.
 use Prim.Native.Nat.{_<_}
 use mathlib.Core.Path.{refl, sym, ap, _∙_, subst}
 use native.Mathlib.Omega.{arith}
