@@ -45,6 +45,15 @@ fill('walk/holds', {
     'returns-4': 'holds-full $r$ $k$ (@if2 .left) (sym (@is-blank .ensures) ∙ not-true _ (@if3 .taken)) ∙ @loop .inv',
     'loop-less': 'omega (arith, tokens-past $g$ $s$ (@loop .p) (@next .result) (@next .ensures) $k$ (@if2 .left), tokens-room $g$ $s$ (@loop .p) (@next .result) (@next .ensures) $k$ (@if2 .left))',
     'loop-again': 'holds-on $r$ $k$ (@if2 .left) (sym (@is-blank .ensures) ∙ not-false _ (@if3 .left)) ∙ @loop .inv'}, macros=H)
+P = '(@a .given .0 .0) (@number-of .result) (@number-of .ensures)'
+fill('walk/parts', {
+    'returns': f'parts-template {P} (@if1 .taken) ∙ sym (ap partsOf (@a .given .1))',
+    'returns-2': f'parts-low {P} (@if1 .left) (@if2 .taken) ∙ sym (ap partsOf (@a .given .1))',
+    'returns-3': f'parts-rest {P} (@if1 .left) (@if2 .left) ∙ sym (ap partsOf (@a .given .1))',
+    'returns-4': 'sym (ap partsOf (@a2 .given .1))'})
+fill('walk/read_under', {
+    'returns': 'under-same $g$ $s$ $at$ (@Start .args .a) (@Start .pre) (sym (@parts .ensures) ∙ not-true _ (@if2 .taken)) ∙ ap (nextAt (underFirst $g$) $s$) (sym (@if1 .taken))',
+    'returns-2': '@next .ensures ∙ ap (λ (f : Reading). nextAt f $s$ (@Start .args .place)) (@under-first .ensures)'}, macros=M)
 U = dict(M, r='(underFirst $g$) $s$ $at$ (@loop .place) (@loop .read) (@loop .inv .0)', k='(@read .given .0 .0) (@read .given .1)',
          t='(underFirst $g$) $s$ (@loop .place) (@loop .read) (@loop .inv .0) $k$ (@if2 .left)')
 fill('walk/onward', {
@@ -55,7 +64,8 @@ fill('walk/onward', {
     'returns-2': '(sym (@read .given .1) ∙ @loop .inv .0, @loop .inv .1, sym (@loop .inv .2) ∙ stay-over $r$ $k$ (@if1 .taken))',
     'returns-3': '(sym (@read .given .1) ∙ @loop .inv .0, @loop .inv .1, sym (@loop .inv .2) ∙ stay-end $r$ $k$ (@if2 .taken))',
     'loop-less': 'omega (arith, tokens-past $t$, tokens-room $t$)',
-    'loop-again': '(@next .ensures ∙ ap (λ (f : Reading). nextAt f $s$ (@read .given .0 .0 .span .end)) (@under-first .ensures), tokens-room $t$, go-onward $r$ $k$ (@if2 .left) (@if1 .left) ∙ @loop .inv .2)'}, macros=U)
+    'read-under-requires': '@Start .pre .2',
+    'loop-again': '(@read-under .ensures, tokens-room $t$, go-onward $r$ $k$ (@if2 .left) (@if1 .left) ∙ @loop .inv .2)'}, macros=U)
 
 fill('walk/runs_on_code', {
     'returns': ('runsOnCode', 'sym (ap (λ (b : Bool). pick b 60 61) (sym (@holds .ensures) ∙ @if1 .taken))'),
@@ -82,7 +92,7 @@ fill('walk/find_tokens', {
     'loop-holds': 'walked-first $g$ $s$ $o0$ $w0$ $c0$ _ (@Start .pre .1) (@Start .pre .2) (@next .ensures ∙ ap (λ (f : Reading). nextAt f $s$ 0) (@under-first .ensures))',
     'same-length': '$same$',
     'returns': 'walk-whole $h$ (sym (@reached .ensures) ∙ @if1 .taken)',
-    'onward-requires': '(@loop .inv .reads, @loop .inv .under)',
+    'onward-requires': '(@loop .inv .reads, @loop .inv .under, @next2 .ensures)',
     'note-requires': '(@loop .inv .left .in-store, @loop .inv .left .few, subst AllSmall (sym (@across .ensures)) (turn-small $t$ (@Start .pre .0)))',
     'same-length-2': '@note .kept .0 ∙ $same$',
     'returns-2': 'turn-full $x$ (@listed .given .0 .0) (@listed .given .1)',

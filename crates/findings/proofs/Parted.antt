@@ -1,19 +1,20 @@
 -- Only a comment or a template is read otherwise under First. Assumes nothing.
-use Prim.Native.Nat.{ℕ, zero, suc, _+_}
-use mathlib.Core.Path.{_≡_, refl, sym, ap}
+use Prim.Native.Nat.{ℕ, zero, suc, _+_, _≤_, _<_}
+use mathlib.Core.Path.{_≡_, refl, sym, ap, _∙_}
 use mathlib.Core.List.{List, [], _∷_}
-use mathlib.Core.Bool.{true}
-use mathlib.Core.Logic.{inl, inr, _⊎_}
+use mathlib.Core.Bool.{true, false}
+use mathlib.Core.Logic.{inl, inr, _⊎_, ⊎-elim}
 use native.Mathlib.Omega.{arith}
-use lib.Dec.{eqb}
+use lib.Dec.{leb, eqb}
 use lib.ListN.{length}
-use borrow.Author.Tests.{ne-eqb}
+use borrow.Author.Tests.{eq-eqb, eqb-true, le-leb, ne-eqb}
 use Rattle.choice.specs.Rule.{behindOne, firstOf, otherOf, tokenWith}
 use Rattle.families.proofs.Pairs.{first-both}
 use Rattle.families.proofs.Sooner.{bang-same, behind-same}
 use Rattle.findings.specs.Findings.{underFirst}
-use Rattle.laws.proofs.Cases.{split}
-use Rattle.laws.specs.Bools.{both, either, within}
+use Rattle.findings.specs.InStep.{partsOf}
+use Rattle.laws.proofs.Cases.{either-false, never, split, within-low}
+use Rattle.laws.specs.Bools.{both}
 use Rattle.lexer.specs.Next.{closeSpan, isShebang, nextAt, nextOf}
 use Rattle.numbers.specs.Kinds.{numberOf}
 use Rattle.readers.specs.Readers.{byteOf, commentEnd, commentOf, lineOf, strOf}
@@ -27,12 +28,11 @@ use Rattle.text.specs.Utf8.{rest, width}
 use Rattle.token.specs.declared.kind.Kind.the-variants.{Comment}
 use Rattle.token.specs.declared.read.Read.{Read}
 use Rattle.token.specs.declared.read.Read.the-variants.{Got, Refused}
+use Rattle.token.specs.declared.read.Token.{Token}
 use Rattle.tokens.proofs.Switch.{Templated, body-templated}
 
--- a comment of kind 3 or 4, a template, or 19, to which only templates lead
 abbrev pub Parted : Read → Type 0
-Parted (Got k) = either (within 3 4 (numberOf (k .kind))) (eqb (numberOf (k .kind)) 16) ≡ true
-Parted (Refused r) = r .number ≡ 19
+Parted r = partsOf r ≡ true
 
 -- the second is what the first is, or the first is one of these
 abbrev Kept : Read → Read → Type 0
@@ -48,7 +48,7 @@ behind-parted R k a (v ∷ cs) p = comment-parted k a cs (p + R .wide v)
 
 templated : (r : Read) → Templated r → Parted r
 templated (Got k) h = rw h refl
-templated (Refused r) h = h
+templated (Refused r) h = eq-eqb (r .number) 19 h
 
 deep-parted : (d a : ℕ) (cs : List ℕ) (p : ℕ) → Parted (deepOf (rulesOf rune) d a cs p)
 unfolding deepOf templateOf
@@ -81,7 +81,7 @@ token-kept d (v ∷ cs) p = rw (with-deep (rulesOf firstClose) d (v ∷ cs) p, w
 -- the span of 12 has no part in it
 close-parted : (n : ℕ) (r : Read) → Parted r → Parted (closeSpan n r)
 close-parted n (Got k) h = h
-close-parted n (Refused r) h = rw (ne-eqb (r .number) 12 (λ e. omega arith)) h
+close-parted n (Refused r) h = let i = eqb-true (r .number) 19 h in rw (ne-eqb (r .number) 12 (λ e. omega arith)) h
 
 close-kept : (n : ℕ) (r r′ : Read) → Kept r r′ → Kept (closeSpan n r) (closeSpan n r′)
 close-kept n r r′ (inl e) = inl (ap (closeSpan n) e)
@@ -101,3 +101,19 @@ by-comments First s p = inl refl
 -- what is read at a place is read there under First too, or is a comment or a template
 pub only-comments-part : (g : Reading) (s : List ℕ) (p : ℕ) → (nextAt (underFirst g) s p ≡ nextAt g s p) ⊎ Parted (nextAt g s p)
 only-comments-part g s p = by-comments (g .comments) s p
+
+-- the test, as the code makes it
+module _ (k : Token) (n : ℕ) (e : n ≡ numberOf (k .kind)) where
+  pub parts-template : n ≡ 16 → true ≡ partsOf (Got k)
+  parts-template h = rw (← e, h) refl
+
+  module _ (h : n ≡ 16 → ⊥) where
+    pub parts-low : n < 3 → false ≡ partsOf (Got k)
+    parts-low l = rw (← e) (rw (within-low 3 4 n l, ne-eqb n 16 h) refl)
+
+    pub parts-rest : 3 ≤ n → leb n 4 ≡ partsOf (Got k)
+    parts-rest l = rw (← e) (rw (le-leb 3 n l, ne-eqb n 16 h) (sym (either-false (leb n 4))))
+
+-- what cannot part is the same under First
+pub under-same : (g : Reading) (s : List ℕ) (p : ℕ) (a : Read) → a ≡ nextAt g s p → partsOf a ≡ false → a ≡ nextAt (underFirst g) s p
+under-same g s p a e h = ⊎-elim (λ (i : nextAt (underFirst g) s p ≡ nextAt g s p). e ∙ sym i) (λ (i : Parted (nextAt g s p)). never (let z = ap partsOf e in cc)) (only-comments-part g s p)

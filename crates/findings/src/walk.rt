@@ -21,12 +21,14 @@ use token::Span;
 use token::Token;
 use token::refusal::ILL_FORMED;
 use token::refusal::NO_PLACE;
+use token::refusal::TOO_DEEP;
 use token::refusal::TOO_LONG;
 ghost use Prim.Native.Nat.{_-_, _≤_};
 ghost use mathlib.Core.Path.{_≡_};
 ghost use lib.Seq.{sets};
 ghost use lib.ListN.{length};
 ghost use Rattle.findings.specs.Findings.{across, alike, alone, answerFound, asCode, endsAs, findingsOf, foundOf, fromOf, holdsAt, isBlank, isComment, markOf, onward, plainFinding, recordsOf, runsOn, runsOnCode, underFirst, walkAt, wordsFound};
+ghost use Rattle.findings.specs.InStep.{partsOf};
 ghost use Rattle.findings.specs.declared.store.Spotted.the-variants.{One};
 ghost use Rattle.lexer.specs.Next.{nextAt};
 ghost use Rattle.listing.specs.declared.Listed.the-variants.{Stopped};
@@ -262,9 +264,42 @@ fn mark(s: &[u8]) -> Spotted
     plain(BYTE_ORDER_MARK, 0, 3)
 }
 
+// A comment, a template, or 19: nothing else is read otherwise under First.
+fn parts(a: Read) -> bool
+    ensures { λ r. ⌜ r ≡ partsOf a ⌝ }
+{
+    match a {
+        Read::Got { token } => {
+            let kind = token.kind;
+            let n = numbers::number_of(kind);
+            if n == 16 {
+                return true;
+            }
+            if n < 3 {
+                return false;
+            }
+            n <= 4
+        }
+        Read::Refused { refusal } => refusal.number == TOO_DEEP,
+    }
+}
+
+// What is read under First at a place, where a is read at `at`: mostly the same, and then it is not read again.
+fn read_under(s: &[u8], reading: Reading, at: usize, a: Read, place: usize) -> Read
+    requires { ⌜ a ≡ nextAt reading (now s) at ⌝ }
+    ensures { λ r. ⌜ r ≡ nextAt (underFirst reading) (now (s .entry)) place ⌝ }
+{
+    if place == at {
+        if !parts(a) {
+            return a;
+        }
+    }
+    lexer::next(s, under_first(reading), place)
+}
+
 // Under First, on to the token that covers a place.
-fn onward(s: &[u8], reading: Reading, at: usize, under: Under) -> Under
-    requires { ⌜ (under .read ≡ nextAt (underFirst reading) (now s) (under .place)) × (under .place ≤ length (now s)) ⌝ }
+fn onward(s: &[u8], reading: Reading, at: usize, a: Read, under: Under) -> Under
+    requires { ⌜ (under .read ≡ nextAt (underFirst reading) (now s) (under .place)) × (under .place ≤ length (now s)) × (a ≡ nextAt reading (now s) at) ⌝ }
     ensures { λ r. ⌜ (r .read ≡ nextAt (underFirst reading) (now (s .entry)) (r .place))
         × (r .place ≤ length (now (s .entry)))
         × (onward at (under .place) (tokensAt (rulesOf (underFirst reading)) (now (s .entry)) (under .place)) ≡ fromOf (underFirst reading) (now (s .entry)) (r .place)) ⌝ }
@@ -282,7 +317,7 @@ fn onward(s: &[u8], reading: Reading, at: usize, under: Under) -> Under
         if end == place {
             return Under { place, read };
         }
-        read = lexer::next(s, under_first(reading), end);
+        read = read_under(s, reading, at, a, end);
         place = end;
     }
 }
@@ -304,7 +339,7 @@ fn find_tokens(s: &[u8], reading: Reading, store: &mut [u32], words: usize, foun
         if reached(a) == at {
             return Listed::Whole { count };
         }
-        let beside = onward(s, reading, at, under);
+        let beside = onward(s, reading, at, a, under);
         match note(store, n, count, across(s, reading, at, a, beside)) {
             Noted::Full { listed } => {
                 return listed;

@@ -40,7 +40,7 @@ returns : tie.Need-returns Inv-loop μ-loop
 returns c = walk-whole (c .before .before .before .before .before .before .before .before .args .reading) (c .before .before .before .before .before .before .before .before .args .s .now) (c .before .before .before .before .before .before .before .before .args .store .now) (c .before .before .before .before .before .before .before .before .args .words) (c .before .before .before .before .before .before .before .before .args .found) (c .before .before .before .loop .store) (c .before .before .before .loop .n) (c .before .before .before .loop .count) (c .before .before .before .loop .at) (c .before .before .before .loop .under .place) (c .before .before .before .loop .under .read) (c .before .before .before .loop .inv) (c .before .before .next2 .result) (c .before .before .next2 .ensures) (sym (c .before .reached .ensures) ∙ c .if1 .taken)
 
 onward-requires : tie.Need-onward-requires Inv-loop μ-loop
-onward-requires c κs = (c .before .before .before .loop .inv .reads, c .before .before .before .loop .inv .under)
+onward-requires c κs = (c .before .before .before .loop .inv .reads, c .before .before .before .loop .inv .under, c .before .before .next2 .ensures)
 
 across-requires : tie.Need-across-requires Inv-loop μ-loop
 across-requires c κs = search needs

@@ -1,5 +1,5 @@
 use Prim.Native.Nat.{_-_, _≤_}
-use mathlib.Core.Path.{_≡_, refl, sym, ap, _∙_}
+use mathlib.Core.Path.{_≡_, refl, sym, _∙_}
 use native.Mathlib.Omega.{arith}
 use borrow.Author.Needs.{needs}
 use lib.ListN.{length}
@@ -7,17 +7,16 @@ use Rattle.findings.proofs.Readings.{go-onward, stay-end, stay-over, st
 use Rattle.findings.specs.Findings.{onward, underFirst, walk}
 use Rattle.lexer.specs.Next.{nextAt}
 use Rattle.readers.specs.Rules.{rulesOf}
-use Rattle.readers.specs.declared.reading.Reading.{Reading}
 use Rattle.tokens.proofs.Steps.{tokens-past, tokens-room}
 use Rattle.tokens.specs.Tokens.{tokensAt}
 use Rattle.findings.proofs.walk.onward.Statement.{statement}
 use Rattle.findings.proofs.walk.onward.Tie as tie
 
 abbrev Inv-loop : tie.InvT-loop
-Inv-loop s reading at place₀ read₀ place read = (read ≡ nextAt (underFirst reading) s place) × (place ≤ length s) × (onward at place (tokensAt (rulesOf (underFirst reading)) s place) ≡ onward at place₀ (tokensAt (rulesOf (underFirst reading)) s place₀))
+Inv-loop s reading at a place₀ read₀ place read = (read ≡ nextAt (underFirst reading) s place) × (place ≤ length s) × (onward at place (tokensAt (rulesOf (underFirst reading)) s place) ≡ onward at place₀ (tokensAt (rulesOf (underFirst reading)) s place₀))
 
 abbrev μ-loop : tie.MeasureT-loop
-μ-loop s reading at place₀ read₀ place read = length s - place
+μ-loop s reading at a place₀ read₀ place read = length s - place
 
 loop-holds : tie.Need-loop-holds Inv-loop μ-loop
 loop-holds c = (c .before .pre .0, c .before .pre .1, refl)
@@ -37,17 +36,14 @@ returns-2 c = (sym (c .before .before .read .given .1) ∙ c .before .before .be
 returns-3 : tie.Need-returns-3 Inv-loop μ-loop
 returns-3 c = (sym (c .before .before .before .read .given .1) ∙ c .before .before .before .before .before .loop .inv .0, c .before .before .before .before .before .loop .inv .1, sym (c .before .before .before .before .before .loop .inv .2) ∙ stay-end (underFirst (c .before .before .before .before .before .before .before .args .reading)) (c .before .before .before .before .before .before .before .args .s .now) (c .before .before .before .before .before .before .before .args .at) (c .before .before .before .before .before .loop .place) (c .before .before .before .before .before .loop .read) (c .before .before .before .before .before .loop .inv .0) (c .before .before .before .read .given .0 .0) (c .before .before .before .read .given .1) (c .if2 .taken))
 
-under-first-requires : tie.Need-under-first-requires Inv-loop μ-loop
-under-first-requires c κs = search needs
-
-next-requires : tie.Need-next-requires Inv-loop μ-loop
-next-requires c κs = search needs
+read-under-requires : tie.Need-read-under-requires Inv-loop μ-loop
+read-under-requires c κs = c .before .before .before .before .before .before .before .pre .2
 
 loop-less : tie.Need-loop-less Inv-loop μ-loop
-loop-less c = omega (arith, tokens-past (underFirst (c .before .before .before .before .before .before .before .before .before .args .reading)) (c .before .before .before .before .before .before .before .before .before .args .s .now) (c .before .before .before .before .before .before .before .loop .place) (c .before .before .before .before .before .before .before .loop .read) (c .before .before .before .before .before .before .before .loop .inv .0) (c .before .before .before .before .before .read .given .0 .0) (c .before .before .before .before .before .read .given .1) (c .before .before .if2 .left), tokens-room (underFirst (c .before .before .before .before .before .before .before .before .before .args .reading)) (c .before .before .before .before .before .before .before .before .before .args .s .now) (c .before .before .before .before .before .before .before .loop .place) (c .before .before .before .before .before .before .before .loop .read) (c .before .before .before .before .before .before .before .loop .inv .0) (c .before .before .before .before .before .read .given .0 .0) (c .before .before .before .before .before .read .given .1) (c .before .before .if2 .left))
+loop-less c = omega (arith, tokens-past (underFirst (c .before .before .before .before .before .before .before .before .args .reading)) (c .before .before .before .before .before .before .before .before .args .s .now) (c .before .before .before .before .before .before .loop .place) (c .before .before .before .before .before .before .loop .read) (c .before .before .before .before .before .before .loop .inv .0) (c .before .before .before .before .read .given .0 .0) (c .before .before .before .before .read .given .1) (c .before .if2 .left), tokens-room (underFirst (c .before .before .before .before .before .before .before .before .args .reading)) (c .before .before .before .before .before .before .before .before .args .s .now) (c .before .before .before .before .before .before .loop .place) (c .before .before .before .before .before .before .loop .read) (c .before .before .before .before .before .before .loop .inv .0) (c .before .before .before .before .read .given .0 .0) (c .before .before .before .before .read .given .1) (c .before .if2 .left))
 
 loop-again : tie.Need-loop-again Inv-loop μ-loop
-loop-again c = (c .next .ensures ∙ ap (λ (f : Reading). nextAt f (c .before .before .before .before .before .before .before .before .before .args .s .now) (c .before .before .before .before .before .read .given .0 .0 .span .end)) (c .before .under-first .ensures), tokens-room (underFirst (c .before .before .before .before .before .before .before .before .before .args .reading)) (c .before .before .before .before .before .before .before .before .before .args .s .now) (c .before .before .before .before .before .before .before .loop .place) (c .before .before .before .before .before .before .before .loop .read) (c .before .before .before .before .before .before .before .loop .inv .0) (c .before .before .before .before .before .read .given .0 .0) (c .before .before .before .before .before .read .given .1) (c .before .before .if2 .left), go-onward (underFirst (c .before .before .before .before .before .before .before .before .before .args .reading)) (c .before .before .before .before .before .before .before .before .before .args .s .now) (c .before .before .before .before .before .before .before .before .before .args .at) (c .before .before .before .before .before .before .before .loop .place) (c .before .before .before .before .before .before .before .loop .read) (c .before .before .before .before .before .before .before .loop .inv .0) (c .before .before .before .before .before .read .given .0 .0) (c .before .before .before .before .before .read .given .1) (c .before .before .if2 .left) (c .before .before .before .if1 .left) ∙ c .before .before .before .before .before .before .before .loop .inv .2)
+loop-again c = (c .read-under .ensures, tokens-room (underFirst (c .before .before .before .before .before .before .before .before .args .reading)) (c .before .before .before .before .before .before .before .before .args .s .now) (c .before .before .before .before .before .before .loop .place) (c .before .before .before .before .before .before .loop .read) (c .before .before .before .before .before .before .loop .inv .0) (c .before .before .before .before .read .given .0 .0) (c .before .before .before .before .read .given .1) (c .before .if2 .left), go-onward (underFirst (c .before .before .before .before .before .before .before .before .args .reading)) (c .before .before .before .before .before .before .before .before .args .s .now) (c .before .before .before .before .before .before .before .before .args .at) (c .before .before .before .before .before .before .loop .place) (c .before .before .before .before .before .before .loop .read) (c .before .before .before .before .before .before .loop .inv .0) (c .before .before .before .before .read .given .0 .0) (c .before .before .before .before .read .given .1) (c .before .if2 .left) (c .before .before .if1 .left) ∙ c .before .before .before .before .before .before .loop .inv .2)
 
 pub onward-spec : {M : Type 1} → statement M
 onward-spec =
@@ -61,7 +57,6 @@ onward-spec =
     returns
     returns-2
     returns-3
-    under-first-requires
-    next-requires
+    read-under-requires
     loop-less
     loop-again)
