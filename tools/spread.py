@@ -1,7 +1,8 @@
 #!/usr/bin/env python3
 """The proofs of the lookahead's calls, which lend the state's arrays where they lie.
 
-usage (run at the repository's root): tools/spread.py
+usage (run at the repository's root): tools/spread.py            writes them
+                                      tools/spread.py --check    names those that are not as it makes them, and exits 1
 
 Writes the shared walks, crates/ahead/proofs/spread, from tools/spread.txt, one for each shape of a call, and the Proof.antt of each call of
 crates/lookahead over one of them: the call and what it calls meet the contract at one definition. tools/walks.py says how spread.txt is read.
@@ -11,8 +12,9 @@ import sys
 
 HERE = os.path.dirname(os.path.abspath(__file__))
 sys.path.insert(0, HERE)
-from walks import CALLS, SHAPES, cite, opened, shaped, write  # noqa: E402
+from walks import CALLS, SHAPES, cite, named, opened, run, shaped  # noqa: E402
 
+TOOL = 'tools/spread.py'
 ARRAYS = [('nums', 6, 0), ('held', 8, 24), ('counts', 8, 56), ('waiting', 256, 88)]  # name, length, offset in the state
 CRATE = 'lookahead'
 WALKS = 'ahead'  # the crate of the state, and of the shared walks
@@ -26,15 +28,18 @@ def layout(n, o):
     return table, d + 4 + 2 * o, arrays
 
 
-def walks():
-    opened(WALKS, 'spread', 'The walks of the calls.', ['Parts', *SHAPES.values()])
+def made():
+    """The path of each file, what it is made from, and its text."""
+    yield f'crates/{WALKS}/proofs/spread.antt', 'tools/walks.py', opened('The walks of the calls.', ['Parts', *SHAPES.values()])
     parts, walk = open(f'{HERE}/spread.txt').read().replace('HERE', WALKS).split('%%\n')
-    write(WALKS, 'spread', 'Parts', shaped(parts, 0, 0, *layout(0, 0)))
+    yield f'crates/{WALKS}/proofs/spread/Parts.antt', 'tools/spread.txt', named(WALKS, shaped(parts, 0, 0, *layout(0, 0)))
     for shape, name in SHAPES.items():
         n, o = 'n' in shape, 'o' in shape
-        write(WALKS, 'spread', name, shaped(walk, n, o, *layout(n, o)))
+        yield f'crates/{WALKS}/proofs/spread/{name}.antt', 'tools/spread.txt', named(WALKS, shaped(walk, n, o, *layout(n, o)))
+    for call, (callee, *_) in CALLS.items():
+        path, text = cite(CRATE, call, call, f'{WALKS}.spread', 'spread-meets', {'by': f'looks.{callee}'})
+        yield path, 'tools/walks.py', text
 
 
-walks()
-for call, (callee, *_) in CALLS.items():
-    cite(CRATE, call, call, f'{WALKS}.spread', 'spread-meets', {'by': f'looks.{callee}'})
+if __name__ == '__main__':
+    run(TOOL, made())

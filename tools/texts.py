@@ -107,42 +107,21 @@ def groups(rows):
 
 # The program.
 
-def wording_arm(numbers, text):
-    arguments = ['out', 'waiting', f'b"{text}"']
-    short = ', '.join(arguments)
-    # rt fmt breaks a call whose arguments are wider.
-    if len(short) <= 60:
-        return f'        {numbers} => put_bytes({short}),\n'
-    return f'        {numbers} => put_bytes(\n' + ''.join(f'            {argument},\n' for argument in arguments) + '        ),\n'
-
-
-def wording_match(name, arms):
-    return f'fn {name}(out: &mut [u8], waiting: usize, number: u32) -> usize {{\n    match number {{\n{arms}    }}\n}}\n'
-
-
-def wording_function(name, rows, field):
-    numbers = {}
-    for row in rows:
-        numbers.setdefault(getattr(row, field), []).append(str(row.number))
-    arms = ''.join(wording_arm(' | '.join(those), text) for text, those in numbers.items())
-    return wording_match(name, arms + wording_arm('_', 'unknown'))
+def wording_function(rows, field):
+    texts = '\\n\\\n        '.join([getattr(row, field) for row in rows] + ['unknown'])
+    return (f'pub fn put_{field}(out: Page, number: u32) -> Page {{\n    put_label(\n        out,\n        b"{texts}",\n'
+            "        b'\\n',\n        row_of(number),\n    )\n}\n")
 
 
 def wordings(table):
     rows = printed(table)
-    parts = {
-        'source': [row for row in rows if row.number < 10],
-        'token': [row for row in rows if 10 <= row.number <= LAST_PRINTED],
-        'finding': [row for row in rows if row.number > LAST_PRINTED],
-    }
+    arms = ''.join(f'        {row.number} => {i},\n' for i, row in enumerate(rows))
     out = ['// What the refusals of a source and the findings are called, mean and ask for; 160 and 161 are the findings 60 and 61 of a template.\n'
            '// Written by tools/texts.py from texts.txt: change that table. Every function is safe and ends; what it puts no contract says.\n'
-           'use buffer::put_bytes;\n']
-    for field in ('name', 'what', 'cure'):
-        out += [wording_function(f'{part}_{field}', those, field) for part, those in parts.items()]
-        arms = zip(('0..=9', f'10..={LAST_PRINTED}', '_'), parts)
-        out.append('pub ' + wording_match(f'put_{field}', ''.join(f'        {arm} => {part}_{field}(out, waiting, number),\n' for arm, part in arms)))
-    return '\n'.join(out)
+           'use buffer::page::Page;\nuse buffer::page::put_label;\n',
+           '// The row of a number in the texts below.\n'
+           f'fn row_of(number: u32) -> usize {{\n    match number {{\n{arms}        _ => {len(rows)},\n    }}\n}}\n']
+    return '\n'.join(out + [wording_function(rows, field) for field in ('name', 'what', 'cure')])
 
 
 # The header.

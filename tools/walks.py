@@ -7,7 +7,9 @@ The walk names what it has: `@x` is the place of x there, and `‹law x y > z›
 """
 import os
 import re
+import sys
 
+from made import first_line
 from uses import use_lines
 
 SHAPES = {'': 'OfList', 'n': 'OfNList', 'o': 'OfListOut', 'no': 'OfNListOut'}
@@ -100,21 +102,20 @@ def walked(text):
     return re.sub(r' +$', '', re.sub(r'(?<=\S)  +', ' ', done), flags=re.M)
 
 
-def write(crate, folder, name, text):
-    """A module of the folder, with the names of other modules as this crate has them."""
-    text = re.sub(r'^use (specs|proofs) ([\w.]+?)(\.\{| as )', lambda m: 'use ' + module(crate, m.group(2), m.group(1)) + m.group(3), text, flags=re.M)
-    open(f'crates/{crate}/proofs/{folder}/{name}.antt', 'w').write(text)
+def named(crate, text):
+    """The text with the names of other modules as this crate has them."""
+    return re.sub(r'^use (specs|proofs) ([\w.]+?)(\.\{| as )', lambda m: 'use ' + module(crate, m.group(2), m.group(1)) + m.group(3), text, flags=re.M)
 
 
-def opened(crate, folder, head, names):
-    """The folder of the walks, and the module that names them."""
-    os.makedirs(f'crates/{crate}/proofs/{folder}', exist_ok=True)
+def opened(head, names):
+    """The module that names the walks."""
     mods = ''.join(f'\npub mod {x}' for x in names)
-    open(f'crates/{crate}/proofs/{folder}.antt', 'w').write(f'-- {head}\n{mods}\n')
+    return f'-- {head}\n{mods}\n'
 
 
 def cite(crate, function, call, walks, meets, callees):
-    """A function's Proof.antt: the `meets` of the walk of its shape, given the call's definition and what each callee, by a short name, meets."""
+    """A function's Proof.antt, its path and text: the `meets` of the walk of its shape, given the call's definition and what each callee, by a
+    short name, meets."""
     _, _, shape, width = CALLS[call]
     walk, F = f'{walks}.{SHAPES[shape]}', meant(call)
     given = f"{width}{' ' if width else ''}{' '.join(f'{x}-def.name' for x in callees)} ({F})"
@@ -127,8 +128,7 @@ def cite(crate, function, call, walks, meets, callees):
         cites += f"""
     (cited 𝓤 H (tripleOf 𝓤 H (𝓖 .A) {short}.signature ({short}.spec 𝓤 H (𝓖 .A) (𝓜 .mem) (𝓡 .run))) 𝓜 𝓡 code.env {short}-def.name {short}-def.routine code.calls-{key} ({short}-thm.met 𝓤 H 𝓜 𝓖 𝓡))"""
     path = f"crates/{crate}/proofs/{function.replace('.', '/')}/Proof.antt"
-    os.makedirs(os.path.dirname(path), exist_ok=True)
-    open(path, 'w').write('\n'.join(made) + f"""
+    return path, '\n'.join(made) + f"""
 use contract.Running.{{givenOf, tables, tablesOf}}
 use denote.Triple.Spec.{{tripleOf}}
 use denote.Triple.Table.{{entered, cited}}
@@ -144,4 +144,24 @@ unfolding code.routine tablesOf
     entered 𝓤 H (tripleOf 𝓤 H (𝓖 .A) own.signature (own.spec 𝓤 H (𝓖 .A) (𝓜 .mem) (𝓡 .run)))
     (tables 𝓤 H 𝓜 𝓡 code.env .C) (tables 𝓤 H 𝓜 𝓡 code.env .Λ) key.name code.function (code.unfolded 𝓤 H 𝓜 𝓡)
     ({meets} {given} 𝓤 H (𝓖 .A) (givenOf 𝓤 H 𝓜 𝓖) (tablesOf 𝓤 H 𝓜 (tables 𝓤 H 𝓜 𝓡 code.env)){cites})
-""")
+"""
+
+
+def run(tool, made):
+    """Writes what a tool makes; with --check names the files that are not so, and exits 1 where there are any."""
+    if sys.argv[1:] not in ([], ['--check']):
+        sys.exit(f'usage (run at the repository\'s root): {tool} [--check]')
+    others = other_than(tool, made)
+    for path, text in others:
+        if sys.argv[1:]:
+            print(f'{path} is not what {tool} makes: run it')
+        else:
+            os.makedirs(os.path.dirname(path), exist_ok=True)
+            open(path, 'w').write(text)
+    sys.exit(1 if sys.argv[1:] and others else 0)
+
+
+def other_than(tool, made):
+    """Of the files that a tool makes those that are not as it makes them; `made` yields the path, what the file is made from, and the text."""
+    whole = [(path, first_line(source, tool) + text) for path, source, text in made]
+    return [(path, text) for path, text in whole if not os.path.exists(path) or open(path).read() != text]
