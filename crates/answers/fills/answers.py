@@ -3,7 +3,7 @@ def match(fn, of, *cases):
 
 
 BOTH = ('counted', 'answer'), ('of-refusal', 'answer2')
-match('of_tested', 'ofTested', ('point', 'enum-told'), ('point2', 'enum-told2'), ('point3', 'answer'), ('point4', 'answer2'))
+match('of_tested', 'ofTested', ('counted', 'enum-told'), ('of-refusal', 'answer'))
 match('of_listed', 'ofListed', *BOTH)
 match('of_outlined', 'ofOutlined', ('counted', 'enum-told'), ('of-refusal', 'answer'))
 match('of_unescaped', 'ofUnescaped', *BOTH)

@@ -13,8 +13,8 @@ use Rattle.answers.specs.declared.form.Named.the-variants.{OneForm, NoFo
 use Rattle.answers.specs.declared.Told.{Told}
 use Rattle.rows.specs.declared.Stored.{Stored}
 use Rattle.rows.specs.declared.Stored.the-variants.{Done as IsStored, Refused as NotStored}
-use Rattle.sound.specs.Source.{testNumber, testPoint}
-use Rattle.sound.specs.declared.Tested.{Tested}
+use Rattle.source_test.specs.Source.{afterTest}
+use Rattle.source_test.specs.declared.Tested.{Tested}
 use Rattle.token.specs.declared.read.Read.{Read}
 use Rattle.token.specs.declared.read.Read.the-variants.{Got as IsRead, Refused as NotRead}
 use Rattle.token.specs.declared.read.Refusal.{Refusal}
@@ -32,7 +32,7 @@ ofRefusal count r = toldAs (r .number) 0 count (r .span .start) (r .span .end) (
 
 -- the tests 1 and 2 of a source
 abbrev pub ofTested : Tested → Told
-ofTested t = toldAs (testNumber t) 0 0 (testPoint t) (testPoint t) (testPoint t)
+ofTested t = afterTest t (toldAs 0 0 0 0 0 0) (ofRefusal 0)
 
 -- a token's value is its kind's number
 abbrev pub ofRead : Read → Told

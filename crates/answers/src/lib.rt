@@ -9,13 +9,10 @@ pub use form::form_of;
 use listing::Listed;
 use outline::Outlined;
 pub use reading::reading_of;
-use sound::Tested;
+use source_test::Tested;
 use storage::Stored;
 use token::Read;
 use token::Refusal;
-use token::refusal::ILL_FORMED;
-use token::refusal::NO_PLACE;
-use token::refusal::TOO_LONG;
 use unescape::Unescaped;
 
 // The number of a refusal, 0 where there is none; and value, count, start, end and the place reached.
@@ -63,10 +60,8 @@ pub fn of_tested(answer: Tested) -> Told
     ensures { λ r. ⌜ r ≡ ofTested answer ⌝ }
 {
     match answer {
-        Tested::Sound => point(0, 0),
-        Tested::TooLong => point(TOO_LONG, 0),
-        Tested::IllFormed { at } => point(ILL_FORMED, at),
-        Tested::Misplaced { at } => point(NO_PLACE, at),
+        Tested::Sound => counted(0),
+        Tested::Unsound { refusal } => of_refusal(0, refusal),
     }
 }
 

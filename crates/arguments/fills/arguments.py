@@ -1,9 +1,9 @@
-def same(n, of, word):
-    return f'(sym (same-by {of} {word} (@same{n} .result) (@same{n} .ensures)))'
+def sameBytes(n, of, word):
+    return f'(sym (same-by {of} {word} (@sameBytes{n} .result) (@sameBytes{n} .ensures)))'
 
 
 M = {'o': '(@Start .args .option .now)', 'v': '(@Start .args .value .now)',
-     'option': same('', '$o$', 'commentsOption'), 'crate': same('2', '$v$', 'crateWord'), 'first': same('3', '$v$', 'firstWord'),
+     'option': sameBytes('', '$o$', 'commentsOption'), 'crate': sameBytes('2', '$v$', 'crateWord'), 'first': sameBytes('3', '$v$', 'firstWord'),
      'yes': '$o$ $v$ ($option$ ∙ not-false _ (@if1 .left))'}
 fill('reading_named', {
     'returns': 'named-other $o$ $v$ ($option$ ∙ not-true _ (@if1 .taken))',

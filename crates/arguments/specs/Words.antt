@@ -9,11 +9,11 @@ use Rattle.readers.specs.declared.reading.Chosen.the-variants.{NoReading, OneRe
 use Rattle.readers.specs.declared.reading.Comments.{Comments}
 use Rattle.readers.specs.declared.reading.Comments.the-variants.{Crate, First}
 
-unfoldable pub same : List ℕ → List ℕ → Bool
-same [] [] = true
-same [] (b ∷ t) = false
-same (a ∷ s) [] = false
-same (a ∷ s) (b ∷ t) = both (eqb a b) (same s t)
+unfoldable pub sameBytes : List ℕ → List ℕ → Bool
+sameBytes [] [] = true
+sameBytes [] (b ∷ t) = false
+sameBytes (a ∷ s) [] = false
+sameBytes (a ∷ s) (b ∷ t) = both (eqb a b) (sameBytes s t)
 
 -- the bytes of `--comments`, `crate` and `first`
 abbrev pub commentsOption : List ℕ
@@ -30,4 +30,4 @@ chosenOf c = OneReading (record { comments = c })
 
 unfoldable pub readingNamed : List ℕ → List ℕ → Chosen
 readingNamed option value =
-    pick (same option commentsOption) (pick (same value crateWord) (chosenOf Crate) (pick (same value firstWord) (chosenOf First) NoReading)) NoReading
+    pick (sameBytes option commentsOption) (pick (sameBytes value crateWord) (chosenOf Crate) (pick (sameBytes value firstWord) (chosenOf First) NoReading)) NoReading

@@ -1,4 +1,4 @@
--- What a filled buffer holds: its count lies within it. Assumes nothing.
+-- What a filled buffer holds: its count lies within it.
 use Prim.Native.Nat.{ℕ, _≤_}
 use mathlib.Core.Path.{_≡_}
 use mathlib.Core.List.{List}

@@ -1,5 +1,7 @@
 // A char or a label, from after the `'` on.
 use text::Scalar;
+use text::character::BACKSLASH;
+use text::character::QUOTE;
 use token::Kind;
 use token::Read;
 use token::refusal::EXPECTED_CHAR_CLOSE;
@@ -45,10 +47,10 @@ pub fn next_char_or_label(s: &[u8], start: usize, at: usize) -> Read
         let Scalar::One { value, next } = text::scalar_at(s, p) else {
             return char_or_label(label, some, start, p);
         };
-        if value == 39 {
+        if value == QUOTE {
             return char_or_label(false, some, start, next);
         }
-        if value == 92 {
+        if value == BACKSLASH {
             let Scalar::One {
                 value: _,
                 next: after,

@@ -1,5 +1,4 @@
-LENT = '(length name ≡ length name₀) × (length source ≡ length source₀) × (length store ≡ length store₀) × (length out ≡ length out₀)'
 fill('asked/count_files', {'Inv-loop': 'length name ≡ length name₀', 'μ-loop': 'count - i'}, head='The arguments left fall. Assumes nothing.')
-fill('files/check_files', {'Inv-loop': LENT, 'μ-loop': 'count - i'}, head='The arguments left fall. Assumes nothing.')
+fill('files/check_files', {'Inv-loop': 'Unit {0}', 'μ-loop': 'count - i'}, head='The arguments left fall. Assumes nothing.')
 fill('records/last_of', {'Inv-loop': '(n ≤ last) × (last < count)', 'μ-loop': 'count - last'}, head='The records left fall. Assumes nothing.')
-fill('records/put_records', {'Inv-loop': 'length out ≡ length out₀', 'μ-loop': 'count - n'}, head='Each finding takes a record or more. Assumes nothing.')
+fill('records/put_records', {'Inv-loop': 'Unit {0}', 'μ-loop': 'count - n'}, head='Each finding takes a record or more. Assumes nothing.')

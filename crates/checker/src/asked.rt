@@ -4,7 +4,7 @@ use readers::Chosen;
 use readers::Comments;
 use readers::Reading;
 
-pub(crate) enum Form {
+pub(crate) enum Layout {
     Text,
     Json,
     Quiet,
@@ -13,7 +13,7 @@ pub(crate) enum Form {
 // expects says that the value of `--comments` comes next.
 pub(crate) struct Settings {
     pub reading: Reading,
-    pub form: Form,
+    pub layout: Layout,
     pub colour: bool,
     pub expects: bool,
 }
@@ -40,46 +40,46 @@ pub(crate) fn default_settings() -> Settings {
         reading: Reading {
             comments: Comments::Crate,
         },
-        form: Form::Text,
+        layout: Layout::Text,
         colour: false,
         expects: false,
     }
 }
 
-fn set(reading: Reading, form: Form, colour: bool, expects: bool) -> Step {
+fn set(reading: Reading, layout: Layout, colour: bool, expects: bool) -> Step {
     Step::Set {
         settings: Settings {
             reading,
-            form,
+            layout,
             colour,
             expects,
         },
     }
 }
 
-fn with_form(settings: Settings, form: Form) -> Step {
+fn with_layout(settings: Settings, layout: Layout) -> Step {
     let reading = settings.reading;
-    set(reading, form, settings.colour, false)
+    set(reading, layout, settings.colour, false)
 }
 
 fn with_colour(settings: Settings) -> Step {
     let reading = settings.reading;
-    let form = settings.form;
-    set(reading, form, true, false)
+    let layout = settings.layout;
+    set(reading, layout, true, false)
 }
 
 fn expecting(settings: Settings) -> Step {
     let reading = settings.reading;
-    let form = settings.form;
-    set(reading, form, settings.colour, true)
+    let layout = settings.layout;
+    set(reading, layout, settings.colour, true)
 }
 
 fn with_comments(settings: Settings, word: &[u8]) -> Step {
     let Chosen::OneReading { reading } = arguments::reading_named(b"--comments", word) else {
         return Step::Wrong;
     };
-    let form = settings.form;
-    set(reading, form, settings.colour, false)
+    let layout = settings.layout;
+    set(reading, layout, settings.colour, false)
 }
 
 // A lone `-` is standard input.
@@ -118,9 +118,9 @@ fn step_by(settings: Settings, word: &[u8]) -> Step {
     }
     match word_of(word) {
         Word::Comments => expecting(settings),
-        Word::Text => with_form(settings, Form::Text),
-        Word::Json => with_form(settings, Form::Json),
-        Word::Quiet => with_form(settings, Form::Quiet),
+        Word::Text => with_layout(settings, Layout::Text),
+        Word::Json => with_layout(settings, Layout::Json),
+        Word::Quiet => with_layout(settings, Layout::Quiet),
         Word::Colour => with_colour(settings),
         Word::Unknown => Step::Wrong,
         Word::File => Step::File { length: word.len() },

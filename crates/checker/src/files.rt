@@ -1,6 +1,6 @@
 // File by file: read it, find, tell, and sum up.
 use crate::asked;
-use crate::asked::Form;
+use crate::asked::Layout;
 use crate::asked::Settings;
 use crate::asked::Step;
 use crate::records::Told;
@@ -10,14 +10,16 @@ use crate::tally;
 use crate::tally::Tally;
 use crate::tally::put_tally;
 use buffer::Filled;
-use buffer::put_bytes;
-use buffer::put_decimal;
+use buffer::page;
+use buffer::page::Page;
+use buffer::page::put_bytes;
+use buffer::page::put_decimal;
 use listing::Listed;
 use places::part;
 
 pub(crate) struct Run {
     pub settings: Settings,
-    pub waiting: usize,
+    pub out: Page,
     pub tally: Tally,
 }
 
@@ -55,180 +57,156 @@ fn read_file(file: &[u8], source: &mut [u8]) -> Filled {
     filled
 }
 
-// What waits is written before a file is read, so that it stands before what is told of that file on standard error.
-fn flushed(out: &[u8], waiting: usize) -> usize {
-    if buffer::flush(out, waiting) {
-        return 0;
-    }
-    buffer::LOST
-}
-
 fn put_found(
-    out: &mut [u8],
     file: &[u8],
     s: &[u8],
     settings: Settings,
-    store: &mut [u32],
+    store: &mut [u32; 5000],
     told: Told,
 ) -> Told {
     let reading = settings.reading;
     match findings::findings(s, reading, store) {
-        Listed::Whole { count } => put_records(out, file, s, settings, store, count, told),
+        Listed::Whole { count } => put_records(file, s, settings, store, count, told),
         Listed::Stopped { count, refusal } => {
-            let found = put_records(out, file, s, settings, store, count, told);
-            put_refusal(out, file, s, settings, store, count, refusal, found)
+            let found = put_records(file, s, settings, store, count, told);
+            put_refusal(file, s, settings, store, count, refusal, found)
         }
     }
 }
 
 // Where several files are named, those without a finding are passed over in silence.
-fn put_file_line(
-    out: &mut [u8],
-    waiting: usize,
-    file: &[u8],
-    form: Form,
-    files: usize,
-    tally: Tally,
-) -> usize {
-    let Form::Text = form else {
-        return waiting;
+fn is_silent(layout: Layout, files: usize, tally: Tally) -> bool {
+    let Layout::Text = layout else {
+        return true;
     };
-    if 1 < files {
-        if tally::is_clean(tally) {
-            return waiting;
-        }
+    if files < 2 {
+        return false;
     }
-    let mut waiting = put_bytes(out, waiting, file);
-    waiting = put_bytes(out, waiting, b": ");
-    put_tally(out, waiting, tally)
+    tally::is_clean(tally)
 }
 
-fn check_source(
-    out: &mut [u8],
-    file: &[u8],
-    s: &[u8],
-    store: &mut [u32],
-    files: usize,
-    run: Run,
-) -> Run {
+fn put_file_line(out: Page, file: &[u8], layout: Layout, files: usize, tally: Tally) -> Page {
+    if is_silent(layout, files, tally) {
+        return out;
+    }
+    put_tally(put_bytes(put_bytes(out, file), b": "), tally)
+}
+
+fn check_source(file: &[u8], s: &[u8], store: &mut [u32; 5000], files: usize, run: Run) -> Run {
     let settings = run.settings;
-    let told = put_found(
+    let out = run.out;
+    let begun = Told {
         out,
-        file,
-        s,
-        settings,
-        store,
-        Told {
-            waiting: run.waiting,
-            tally: tally::nothing(),
-            place: places::origin(),
-        },
-    );
+        tally: tally::nothing(),
+        place: places::origin(),
+    };
+    let told = put_found(file, s, settings, store, begun);
     let found = told.tally;
-    let form = settings.form;
-    let waiting = put_file_line(out, told.waiting, file, form, files, found);
+    let layout = settings.layout;
+    let out = put_file_line(told.out, file, layout, files, found);
     Run {
         settings,
-        waiting,
+        out,
         tally: tally::both(run.tally, found),
     }
 }
 
+// What waits is written before a file is read, so that it stands before what is told of that file on standard error.
+fn flushed(run: Run) -> Run {
+    let settings = run.settings;
+    let tally = run.tally;
+    Run {
+        settings,
+        out: page::flushed(run.out),
+        tally,
+    }
+}
+
+fn unread(run: Run) -> Run {
+    let settings = run.settings;
+    let out = run.out;
+    Run {
+        settings,
+        out,
+        tally: tally::with_unread(run.tally),
+    }
+}
+
 fn check_file(
-    out: &mut [u8],
     file: &[u8],
-    source: &mut [u8],
-    store: &mut [u32],
+    source: &mut [u8; 65537],
+    store: &mut [u32; 5000],
     files: usize,
     run: Run,
 ) -> Run {
-    let settings = run.settings;
-    let tally = run.tally;
-    let waiting = flushed(out, run.waiting);
+    let run = flushed(run);
     let Filled::Bytes { count } = read_file(file, source) else {
-        return Run {
-            settings,
-            waiting,
-            tally: tally::with_unread(tally),
-        };
+        return unread(run);
     };
-    let s = part(source, 0, count);
-    check_source(
+    check_source(file, part(source, 0, count), store, files, run)
+}
+
+fn set(run: Run, settings: Settings) -> Run {
+    let out = run.out;
+    let tally = run.tally;
+    Run {
+        settings,
         out,
-        file,
-        s,
-        store,
-        files,
-        Run {
-            settings,
-            waiting,
-            tally,
-        },
-    )
+        tally,
+    }
 }
 
 fn take_argument(
     i: usize,
-    name: &mut [u8],
-    source: &mut [u8],
-    store: &mut [u32],
-    out: &mut [u8],
+    name: &mut [u8; 4096],
+    source: &mut [u8; 65537],
+    store: &mut [u32; 5000],
     files: usize,
     run: Run,
 ) -> Run {
     let settings = run.settings;
-    let tally = run.tally;
     match asked::read_argument(i, settings, name) {
-        Step::File { length } => {
-            let file = part(name, 0, length);
-            check_file(out, file, source, store, files, run)
-        }
-        Step::Set { settings } => Run {
-            settings,
-            waiting: run.waiting,
-            tally,
-        },
+        Step::File { length } => check_file(part(name, 0, length), source, store, files, run),
+        Step::Set { settings } => set(run, settings),
         Step::Wrong => run,
     }
 }
 
-fn put_last_line(out: &mut [u8], files: usize, run: Run) -> usize {
+fn put_last_line(files: usize, run: Run) -> Page {
     let settings = run.settings;
-    let form = settings.form;
-    let Form::Text = form else {
-        return run.waiting;
+    let layout = settings.layout;
+    let Layout::Text = layout else {
+        return run.out;
     };
     if files < 2 {
-        return run.waiting;
+        return run.out;
     }
-    let mut waiting = put_decimal(out, run.waiting, files as u64);
-    waiting = put_bytes(out, waiting, b" files: ");
-    put_tally(out, waiting, run.tally)
+    let out = put_decimal(run.out, files as u64);
+    put_tally(put_bytes(out, b" files: "), run.tally)
 }
 
 pub(crate) fn check_files(
     files: usize,
-    name: &mut [u8],
-    source: &mut [u8],
-    store: &mut [u32],
-    out: &mut [u8],
+    name: &mut [u8; 4096],
+    source: &mut [u8; 65537],
+    store: &mut [u32; 5000],
 ) -> Run {
     let count = os::arg_count();
     let mut run = Run {
         settings: asked::default_settings(),
-        waiting: 0,
+        out: page::blank(),
         tally: tally::nothing(),
     };
     let mut i: usize = 1;
     while i < count {
-        run = take_argument(i, name, source, store, out, files, run);
+        run = take_argument(i, name, source, store, files, run);
         i = i + 1;
     }
     let settings = run.settings;
     let tally = run.tally;
     Run {
         settings,
-        waiting: put_last_line(out, files, run),
+        out: put_last_line(files, run),
         tally,
     }
 }

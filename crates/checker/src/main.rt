@@ -5,6 +5,7 @@ mod files;
 mod records;
 mod tally;
 
+use buffer::page;
 use tally::Tally;
 
 fn status_of(tally: Tally, written: bool) -> u8 {
@@ -23,13 +24,12 @@ fn tell_unwritten(written: bool) {
     }
 }
 
-fn check_all(count: usize, name: &mut [u8]) {
+fn check_all(count: usize, name: &mut [u8; 4096]) {
     // One byte more than a source may have tells an over-long one.
     let mut source = [0u8; 65537];
     let mut store = [0u32; 5000];
-    let mut out = io::large_buffer();
-    let run = files::check_files(count, name, &mut source, &mut store, &mut out);
-    let written = buffer::flush(&out, run.waiting);
+    let run = files::check_files(count, name, &mut source, &mut store);
+    let written = page::flush(run.out);
     tell_unwritten(written);
     buffer::leave(status_of(run.tally, written));
 }

@@ -1,8 +1,10 @@
 // The findings of a source, five words each, told one by one.
-use crate::asked::Form;
+use crate::asked::Layout;
 use crate::asked::Settings;
 use crate::tally;
 use crate::tally::Tally;
+use buffer::page::Page;
+use buffer::page::put_bytes;
 use findings::code::BYTE_ORDER_MARK;
 use findings::code::COMMENT_UNCLOSED;
 use findings::code::READ_AS_CODE;
@@ -16,9 +18,9 @@ use token::refusal::NO_ROOM;
 use token::refusal::UNEXPECTED_CHAR;
 ghost use Prim.Native.Nat.{_≤_, _<_};
 
-// How much of the buffer waits, what was told, and the place of the last that was told: lines are counted from there on.
+// What is on its way out, what was told, and the place of the last that was told: lines are counted from there on.
 pub(crate) struct Told {
-    pub waiting: usize,
+    pub out: Page,
     pub tally: Tally,
     pub place: Place,
 }
@@ -27,7 +29,7 @@ fn word_at(store: &[u32], i: usize) -> u32 {
     if i < store.len() { store[i] } else { 0 }
 }
 
-fn wide(word: u32) -> usize {
+fn usize_of(word: u32) -> usize {
     word as usize
 }
 
@@ -46,19 +48,19 @@ fn code(store: &[u32], n: usize) -> u32 {
 }
 
 fn start(store: &[u32], n: usize) -> usize {
-    wide(word_of(store, n, 1))
+    usize_of(word_of(store, n, 1))
 }
 
 fn end(store: &[u32], n: usize) -> usize {
-    wide(word_of(store, n, 2))
+    usize_of(word_of(store, n, 2))
 }
 
 fn from(store: &[u32], n: usize) -> usize {
-    wide(word_of(store, n, 3))
+    usize_of(word_of(store, n, 3))
 }
 
 fn to(store: &[u32], n: usize) -> usize {
-    wide(word_of(store, n, 4))
+    usize_of(word_of(store, n, 4))
 }
 
 // The number of a record's texts: a template that runs on has its own.
@@ -93,11 +95,11 @@ fn is_same_comment(store: &[u32], n: usize, other: usize) -> bool {
 }
 
 // The last record of those that are told as one: what is read as code in one comment.
-fn last_of(store: &[u32], form: Form, n: usize, count: usize) -> usize
+fn last_of(store: &[u32], layout: Layout, n: usize, count: usize) -> usize
     requires { ⌜ n < count ⌝ }
     ensures { λ r. ⌜ (n ≤ r) × (r < count) ⌝ }
 {
-    if let Form::Json = form {
+    if let Layout::Json = layout {
         return n;
     }
     if code(store, n) != READ_AS_CODE {
@@ -114,8 +116,8 @@ fn last_of(store: &[u32], form: Form, n: usize, count: usize) -> usize
 }
 
 // An unclosed comment that was told by the record before, as one that runs on.
-fn is_told(store: &[u32], form: Form, n: usize) -> bool {
-    if let Form::Json = form {
+fn is_told(store: &[u32], layout: Layout, n: usize) -> bool {
+    if let Layout::Json = layout {
         return false;
     }
     if n == 0 {
@@ -127,43 +129,24 @@ fn is_told(store: &[u32], form: Form, n: usize) -> bool {
     start(store, n) == start(store, n - 1)
 }
 
-fn put_by_form(
-    out: &mut [u8],
-    waiting: usize,
-    file: &[u8],
-    s: &[u8],
-    settings: Settings,
-    p: Place,
-    f: Finding,
-) -> usize {
-    let form = settings.form;
+fn put_by_form(out: Page, file: &[u8], s: &[u8], settings: Settings, p: Place, f: Finding) -> Page {
+    let layout = settings.layout;
     let reading = settings.reading;
-    match form {
-        Form::Text => report::put_told(out, waiting, file, s, reading, settings.colour, p, f),
-        Form::Json => report::put_json(out, waiting, file, s, p, f),
-        Form::Quiet => waiting,
+    match layout {
+        Layout::Text => report::put_told(out, file, s, reading, settings.colour, p, f),
+        Layout::Json => report::put_json(out, file, s, p, f),
+        Layout::Quiet => out,
     }
 }
 
-fn put_finding(
-    out: &mut [u8],
-    file: &[u8],
-    s: &[u8],
-    settings: Settings,
-    told: Told,
-    f: Finding,
-) -> Told {
+fn put_finding(file: &[u8], s: &[u8], settings: Settings, told: Told, f: Finding) -> Told {
     let place = moved(s, told.place, f.start);
-    let waiting = put_by_form(out, told.waiting, file, s, settings, place, f);
-    Told {
-        waiting,
-        tally: tally::with(told.tally, f.number),
-        place,
-    }
+    let out = put_by_form(told.out, file, s, settings, place, f);
+    let tally = tally::with(told.tally, f.number);
+    Told { out, tally, place }
 }
 
 fn put_record(
-    out: &mut [u8],
     file: &[u8],
     s: &[u8],
     settings: Settings,
@@ -172,15 +155,14 @@ fn put_record(
     last: usize,
     told: Told,
 ) -> Told {
-    let form = settings.form;
-    if is_told(store, form, n) {
+    let layout = settings.layout;
+    if is_told(store, layout, n) {
         return told;
     }
-    put_finding(out, file, s, settings, told, finding_of(s, store, n, last))
+    put_finding(file, s, settings, told, finding_of(s, store, n, last))
 }
 
 pub(crate) fn put_records(
-    out: &mut [u8],
     file: &[u8],
     s: &[u8],
     settings: Settings,
@@ -188,40 +170,29 @@ pub(crate) fn put_records(
     count: usize,
     begun: Told,
 ) -> Told {
-    let form = settings.form;
+    let layout = settings.layout;
     let mut told = begun;
     let mut n: usize = 0;
     while n < count {
-        let last = last_of(store, form, n, count);
-        told = put_record(out, file, s, settings, store, n, last, told);
+        let last = last_of(store, layout, n, count);
+        told = put_record(file, s, settings, store, n, last, told);
         n = last + 1;
     }
     told
 }
 
-fn put_too_many(
-    out: &mut [u8],
-    file: &[u8],
-    s: &[u8],
-    form: Form,
-    told: Told,
-    refusal: Refusal,
-) -> usize {
-    let waiting = told.waiting;
-    match form {
-        Form::Text => {
-            let waiting = buffer::put_bytes(out, waiting, file);
-            buffer::put_bytes(
-                out,
-                waiting,
-                b": more than 1000 findings: mend these first\n",
-            )
-        }
-        Form::Json => {
+fn put_too_many(file: &[u8], s: &[u8], layout: Layout, told: Told, refusal: Refusal) -> Page {
+    let out = told.out;
+    match layout {
+        Layout::Text => put_bytes(
+            put_bytes(out, file),
+            b": more than 1000 findings: mend these first\n",
+        ),
+        Layout::Json => {
             let f = finding_of_refusal(refusal);
-            report::put_json(out, waiting, file, s, moved(s, told.place, f.start), f)
+            report::put_json(out, file, s, moved(s, told.place, f.start), f)
         }
-        Form::Quiet => waiting,
+        Layout::Quiet => out,
     }
 }
 
@@ -251,7 +222,6 @@ fn finding_of_refusal(refusal: Refusal) -> Finding {
 }
 
 pub(crate) fn put_refusal(
-    out: &mut [u8],
     file: &[u8],
     s: &[u8],
     settings: Settings,
@@ -264,14 +234,14 @@ pub(crate) fn put_refusal(
         return told;
     }
     if refusal.number == NO_ROOM {
-        let form = settings.form;
+        let layout = settings.layout;
         let tally = told.tally;
         let place = told.place;
         return Told {
-            waiting: put_too_many(out, file, s, form, told, refusal),
+            out: put_too_many(file, s, layout, told, refusal),
             tally,
             place,
         };
     }
-    put_finding(out, file, s, settings, told, finding_of_refusal(refusal))
+    put_finding(file, s, settings, told, finding_of_refusal(refusal))
 }

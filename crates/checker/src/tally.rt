@@ -1,7 +1,8 @@
 // How much was found, and how that is said.
-use buffer::put;
-use buffer::put_bytes;
-use buffer::put_decimal;
+use buffer::page::Page;
+use buffer::page::put;
+use buffer::page::put_bytes;
+use buffer::page::put_decimal;
 use report::Severity;
 use report::put_if;
 
@@ -65,29 +66,29 @@ pub(crate) fn is_clean(tally: Tally) -> bool {
 }
 
 // before is how many were said before, of other things.
-fn put_count(out: &mut [u8], waiting: usize, before: usize, count: usize, word: &[u8]) -> usize {
+fn put_count(out: Page, before: usize, count: usize, word: &[u8]) -> Page {
     if count == 0 {
-        return waiting;
+        return out;
     }
-    let mut waiting = put_if(out, waiting, 0 < before, b", ");
-    waiting = put_decimal(out, waiting, count as u64);
-    put_bytes(out, waiting, word)
+    let mut out = put_if(out, 0 < before, b", ");
+    out = put_decimal(out, count as u64);
+    put_bytes(out, word)
 }
 
-fn put_counted(out: &mut [u8], waiting: usize, before: usize, count: usize, word: &[u8]) -> usize {
-    let waiting = put_count(out, waiting, before, count, word);
-    put_if(out, waiting, 1 < count, b"s")
+fn put_counted(out: Page, before: usize, count: usize, word: &[u8]) -> Page {
+    let out = put_count(out, before, count, word);
+    put_if(out, 1 < count, b"s")
 }
 
-pub(crate) fn put_tally(out: &mut [u8], waiting: usize, tally: Tally) -> usize {
+pub(crate) fn put_tally(out: Page, tally: Tally) -> Page {
     let errors = tally.errors;
     let more = sum(errors, tally.warnings);
     let all = sum(more, tally.notes);
     let nothing = is_clean(tally) && tally.unread == 0;
-    let mut waiting = put_counted(out, waiting, 0, errors, b" error");
-    waiting = put_counted(out, waiting, errors, tally.warnings, b" warning");
-    waiting = put_counted(out, waiting, more, tally.notes, b" note");
-    waiting = put_count(out, waiting, all, tally.unread, b" not read");
-    waiting = put_if(out, waiting, nothing, b"nothing found");
-    put(out, waiting, b'\n')
+    let mut out = put_counted(out, 0, errors, b" error");
+    out = put_counted(out, errors, tally.warnings, b" warning");
+    out = put_counted(out, more, tally.notes, b" note");
+    out = put_count(out, all, tally.unread, b" not read");
+    out = put_if(out, nothing, b"nothing found");
+    put(out, b'\n')
 }

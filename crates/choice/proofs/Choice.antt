@@ -7,7 +7,7 @@ use lib.Dec.{eqb}
 use borrow.Author.Tests.{eq-eqb, ne-eqb}
 use Rattle.choice.specs.Rule.{Deep, behindOne, firstOf, foundOr, leftOf, nextIs, noTemplate, otherOf}
 use Rattle.classes.specs.Classes.{isWhiteSpace, isXidContinue, isXidStart, whiteSpace, xidStart}
-use Rattle.digits.specs.Digits.{isDigit}
+use Rattle.classes.specs.Digits.{isDigit}
 use Rattle.laws.proofs.Cases.{both-false, split}
 use Rattle.laws.specs.Bools.{both, pick}
 use Rattle.laws.specs.Tables.{inRanges}
@@ -139,16 +139,16 @@ first-deep g t v a cs p h = no-operator cs ∙ ap (λ (x : ℕ). firstOf (rulesO
 -- cases on the rule chosen
 module _ (R : Rules) (t : Deep) (v a : ℕ) (cs : List ℕ) (p : ℕ) (P : Read → Type 0) where
   pub first-cases :
-      P (whiteOf (R .wide) a cs p) → (nextIs 47 cs ≡ true → P (behindOne R (lineOf (R .wide) Comment a) cs p)) → (nextIs 42 cs ≡ true → P (behindOne R (commentOf (R .wide) (R .skip) a) cs p))
-      → (nextIs 39 cs ≡ true → P (behindOne R (byteOf (R .wide) a) cs p)) → (nextIs 34 cs ≡ true → P (behindOne R (strOf (R .wide) true a) cs p)) → P (strOf (R .wide) false a cs p)
-      → ((k : Kind) (e : ℕ) → operatorOf (R .wide) v cs p ≡ Found k e → P (gotOf k a e)) → P (wordOf (R .wide) (R .continue) v a cs p) → P (numberLitOf (R .wide) a cs p) → P (charOf (R .wide) a cs p) → P (t a cs p)
+      P (whiteOf (R .stride) a cs p) → (nextIs 47 cs ≡ true → P (behindOne R (lineOf (R .stride) Comment a) cs p)) → (nextIs 42 cs ≡ true → P (behindOne R (commentOf (R .stride) (R .skip) a) cs p))
+      → (nextIs 39 cs ≡ true → P (behindOne R (byteOf (R .stride) a) cs p)) → (nextIs 34 cs ≡ true → P (behindOne R (strOf (R .stride) true a) cs p)) → P (strOf (R .stride) false a cs p)
+      → ((k : Kind) (e : ℕ) → operatorOf (R .stride) v cs p ≡ Found k e → P (gotOf k a e)) → P (wordOf (R .stride) (R .continue) v a cs p) → P (numberLitOf (R .stride) a cs p) → P (charOf (R .stride) a cs p) → P (t a cs p)
       → P (refusedOf 18 a p p) → P (firstOf R t v a cs p)
   unfolding firstOf otherOf leftOf
   first-cases white line comment byte bytes str op word number char deep none =
       pick-case (isWhiteSpace v) white
       (two-case 47 47 line (two-case 47 42 comment (two-case 98 39 byte (two-case 98 34 bytes
       (pick-case (eqb v 34) str
-      (found-case (operatorOf (R .wide) v cs p) refl
+      (found-case (operatorOf (R .stride) v cs p) refl
       (pick-case (startsWord R v) word (pick-case (isDigit v) number (pick-case (eqb v 39) char (pick-case (eqb v 96) deep none))))))))))
     where
       pick-case : (b : Bool) {x y : Read} → P x → P y → P (pick b x y)
@@ -158,6 +158,6 @@ module _ (R : Rules) (t : Deep) (v a : ℕ) (cs : List ℕ) (p : ℕ) (P : Read 
       two-case : (c d : ℕ) {x y : Read} → (nextIs d cs ≡ true → P x) → P y → P (pick (both (eqb v c) (nextIs d cs)) x y)
       two-case c d h k = split (nextIs d cs) (λ e. pick-case (both (eqb v c) (nextIs d cs)) (h e) k) (λ e. rw (e, both-false) k)
 
-      found-case : (o : Operator) {y : Read} → operatorOf (R .wide) v cs p ≡ o → P y → P (foundOr o a y)
+      found-case : (o : Operator) {y : Read} → operatorOf (R .stride) v cs p ≡ o → P y → P (foundOr o a y)
       found-case (Found k e) q h = op k e q
       found-case Nothing q h = h

@@ -4,13 +4,14 @@ use mathlib.Core.List.{List, [], _∷_}
 use mathlib.Core.Bool.{Bool, true, false}
 use lib.Dec.{eqb}
 use Rattle.classes.specs.Classes.{isWhiteSpace}
-use Rattle.digits.specs.Digits.{isDigit}
+use Rattle.classes.specs.Digits.{isDigit}
 use Rattle.laws.specs.Bools.{both, pick}
 use Rattle.operators.specs.Operators.{operatorOf}
 use Rattle.operators.specs.declared.Operator.{Operator}
 use Rattle.operators.specs.declared.Operator.the-variants.{Found, Nothing}
 use Rattle.readers.specs.Readers.{byteOf, charOf, commentOf, lineOf, numberLitOf, startsWord, strOf, whiteOf, wordOf}
 use Rattle.readers.specs.Rules.{Rules}
+use Rattle.text.specs.Characters.{backtick, doubleQuote, letterB, quote, slash, star}
 use Rattle.token.specs.Reads.{gotOf, refusedOf}
 use Rattle.token.specs.declared.kind.Kind.the-variants.{Comment, Eof}
 use Rattle.token.specs.declared.read.Read.{Read}
@@ -22,7 +23,7 @@ nextIs c (v ∷ cs) = eqb v c
 -- a reader, from after the first of the scalars on
 abbrev pub behindOne : Rules → (List ℕ → ℕ → Read) → List ℕ → ℕ → Read
 behindOne R f [] p = f [] p
-behindOne R f (v ∷ cs) p = f cs (p + R .wide v)
+behindOne R f (v ∷ cs) p = f cs (p + R .stride v)
 
 abbrev pub foundOr : Operator → ℕ → Read → Read
 foundOr (Found k e) a r = gotOf k a e
@@ -35,25 +36,25 @@ Deep = ℕ → List ℕ → ℕ → Read
 -- the scalar v stands at a, and after it the scalars cs, from p on. Words, numbers, char or label, template, and 18 where no rule fits
 unfoldable pub leftOf : Rules → Deep → ℕ → ℕ → List ℕ → ℕ → Read
 leftOf R t v a cs p =
-    pick (startsWord R v) (wordOf (R .wide) (R .continue) v a cs p)
-    (pick (isDigit v) (numberLitOf (R .wide) a cs p)
-    (pick (eqb v 39) (charOf (R .wide) a cs p)
-    (pick (eqb v 96) (t a cs p)
+    pick (startsWord R v) (wordOf (R .stride) (R .continue) v a cs p)
+    (pick (isDigit v) (numberLitOf (R .stride) a cs p)
+    (pick (eqb v quote) (charOf (R .stride) a cs p)
+    (pick (eqb v backtick) (t a cs p)
     (refusedOf 18 a p p))))
 
 -- operators come before these
 unfoldable pub otherOf : Rules → Deep → ℕ → ℕ → List ℕ → ℕ → Read
-otherOf R t v a cs p = foundOr (operatorOf (R .wide) v cs p) a (leftOf R t v a cs p)
+otherOf R t v a cs p = foundOr (operatorOf (R .stride) v cs p) a (leftOf R t v a cs p)
 
 -- white space, `//`, `/*`, `b'`, `b"`, `"`, and then the others
 unfoldable pub firstOf : Rules → Deep → ℕ → ℕ → List ℕ → ℕ → Read
 firstOf R t v a cs p =
-    pick (isWhiteSpace v) (whiteOf (R .wide) a cs p)
-    (pick (both (eqb v 47) (nextIs 47 cs)) (behindOne R (lineOf (R .wide) Comment a) cs p)
-    (pick (both (eqb v 47) (nextIs 42 cs)) (behindOne R (commentOf (R .wide) (R .skip) a) cs p)
-    (pick (both (eqb v 98) (nextIs 39 cs)) (behindOne R (byteOf (R .wide) a) cs p)
-    (pick (both (eqb v 98) (nextIs 34 cs)) (behindOne R (strOf (R .wide) true a) cs p)
-    (pick (eqb v 34) (strOf (R .wide) false a cs p)
+    pick (isWhiteSpace v) (whiteOf (R .stride) a cs p)
+    (pick (both (eqb v slash) (nextIs slash cs)) (behindOne R (lineOf (R .stride) Comment a) cs p)
+    (pick (both (eqb v slash) (nextIs star cs)) (behindOne R (commentOf (R .stride) (R .skip) a) cs p)
+    (pick (both (eqb v letterB) (nextIs quote cs)) (behindOne R (byteOf (R .stride) a) cs p)
+    (pick (both (eqb v letterB) (nextIs doubleQuote cs)) (behindOne R (strOf (R .stride) true a) cs p)
+    (pick (eqb v doubleQuote) (strOf (R .stride) false a cs p)
     (otherOf R t v a cs p))))))
 
 -- where no template is read, a backtick fits no rule
@@ -63,4 +64,4 @@ noTemplate a cs p = refusedOf 18 a p p
 -- at the end 67, a point
 unfoldable pub tokenWith : Rules → Deep → List ℕ → ℕ → Read
 tokenWith R t [] p = gotOf Eof p p
-tokenWith R t (v ∷ cs) p = firstOf R t v p cs (p + R .wide v)
+tokenWith R t (v ∷ cs) p = firstOf R t v p cs (p + R .stride v)

@@ -2,6 +2,12 @@
 use operators::Operator;
 use readers::Reading;
 use text::Scalar;
+use text::character::DOUBLE_QUOTE;
+use text::character::LETTER_B;
+use text::character::QUOTE;
+use text::character::SLASH;
+use text::character::STAR;
+use text::character::UNDERSCORE;
 use token::Kind;
 use token::Read;
 use token::refusal::UNEXPECTED_CHAR;
@@ -14,16 +20,16 @@ ghost use Rattle.text.specs.Utf8.{rest};
 fn read_left(s: &[u8], value: u32, start: usize, at: usize) -> Read
     ensures { λ r. ⌜ r ≡ leftOf (rulesOf rune) noTemplate value start (rest (now (s .entry)) at) at ⌝ }
 {
-    if value == 95 {
+    if value == UNDERSCORE {
         return words::next_ident(s, value, start, at);
     }
     if classes::is_xid_start(value) {
         return words::next_ident(s, value, start, at);
     }
-    if digits::is_ascii_digit(value) {
+    if classes::is_ascii_digit(value) {
         return words::next_number_literal(s, start, at);
     }
-    if value == 39 {
+    if value == QUOTE {
         return chars::next_char_or_label(s, start, at);
     }
     token::refused(UNEXPECTED_CHAR, start, at, at)
@@ -45,19 +51,19 @@ pub fn read_first(s: &[u8], reading: Reading, value: u32, start: usize, at: usiz
     if classes::is_whitespace(value) {
         return token::got(Kind::Whitespace, start, readers::consume_whitespace(s, at));
     }
-    if value == 34 {
+    if value == DOUBLE_QUOTE {
         return strings::next_str(s, false, start, at);
     }
-    if value == 47 {
+    if value == SLASH {
         match text::scalar_at(s, at) {
             Scalar::One {
                 value: second,
                 next,
             } => {
-                if second == 47 {
+                if second == SLASH {
                     return token::got(Kind::Comment, start, readers::consume_line(s, next));
                 }
-                if second == 42 {
+                if second == STAR {
                     let comments = reading.comments;
                     return readers::next_multiline_comment(s, comments, start, next);
                 }
@@ -65,16 +71,16 @@ pub fn read_first(s: &[u8], reading: Reading, value: u32, start: usize, at: usiz
             Scalar::None => {}
         }
     }
-    if value == 98 {
+    if value == LETTER_B {
         match text::scalar_at(s, at) {
             Scalar::One {
                 value: second,
                 next,
             } => {
-                if second == 39 {
+                if second == QUOTE {
                     return strings::next_lit_byte(s, start, next);
                 }
-                if second == 34 {
+                if second == DOUBLE_QUOTE {
                     return strings::next_str(s, true, start, next);
                 }
             }

@@ -4,7 +4,7 @@ use mathlib.Core.Path.{_≡_, refl}
 use mathlib.Core.Bool.{Bool, true, false}
 use lib.Dec.{leb, ltb, eqb}
 use Rattle.classes.specs.Classes.{isWhiteSpace, isXidContinue, isXidStart, whiteSpace, xidContinue, xidStart}
-use Rattle.digits.specs.Digits.{isDigit}
+use Rattle.classes.specs.Digits.{isDigit}
 use Rattle.laws.proofs.Tables.{below-same}
 use Rattle.laws.specs.Bools.{either, pick}
 use Rattle.laws.specs.Tables.{everyBelow, inRanges, ordered}

@@ -1,9 +1,14 @@
 // The classes of document 01. ASCII is settled by comparisons alone; what is left is looked up in a table of ranges that ascend.
+mod digits;
+
 ghost use Prim.Native.Nat.{_<_};
 ghost use mathlib.Core.Path.{_≡_};
 ghost use mathlib.Core.Bool.{true};
 ghost use Rattle.classes.specs.Classes.{isControl, isWhiteSpace, isXidContinue, isXidStart};
 ghost use Rattle.laws.specs.Tables.{inRanges, ordered};
+pub use digits::hex_value;
+pub use digits::is_ascii_digit;
+pub use digits::is_ascii_hexdigit;
 
 const WHITE_SPACE: [u32; 22] = [
     0x0009,

@@ -13,7 +13,7 @@ use Rattle.families.specs.Shape.{xs}
 use Rattle.laws.proofs.Cases.{never, split}
 use Rattle.outline.proofs.Shading.{paint-length}
 use Rattle.outline.specs.Outline.{paint}
-use Rattle.sound.specs.Source.{soundTo}
+use Rattle.source_test.specs.Source.{soundTo}
 use Rattle.text.proofs.Decode.{by-first, end-first, first-at, first-whole, rest-end, rest-tail, step-ascii, step-first}
 use Rattle.text.proofs.Leads.{four-inv, three-inv, two-inv}
 use Rattle.text.specs.Utf8.{first, fourOf, leadOf, rest, seq, threeOf, twoOf, width}

@@ -6,14 +6,14 @@ use mathlib.Core.Bool.{Bool}
 use lib.Seq.{sets}
 use lib.ListN.{length}
 use Rattle.laws.proofs.Determined.{determined, determined-both}
-use Rattle.lexer.specs.Next.{laterAt, nextAt, readAt}
+use Rattle.lexer.specs.Next.{nextAt, pastStartAt, readAt}
 use Rattle.listing.specs.Listing.{listOf, storedOf}
 use Rattle.listing.specs.declared.Listed.{Listed}
-use Rattle.outline.specs.Outline.{outlineOf, writtenOf}
+use Rattle.outline.specs.Outline.{outlineOf, outlineWritten}
 use Rattle.outline.specs.declared.Outlined.{Outlined}
 use Rattle.readers.specs.declared.reading.Reading.{Reading}
-use Rattle.sound.specs.Source.{boundary, positionTest, sourceTest}
-use Rattle.sound.specs.declared.Tested.{Tested}
+use Rattle.source_test.specs.Source.{boundary, positionTest, sourceTest}
+use Rattle.source_test.specs.declared.Tested.{Tested}
 use Rattle.text.specs.Utf8.{scalarAt, secondAt}
 use Rattle.text.specs.declared.utf8.Scalar.{Scalar}
 use Rattle.token.specs.declared.read.Read.{Read}
@@ -38,7 +38,7 @@ module _ (s : List ℕ) where
     pub next-determined : (g : Reading) (r q : Read) → r ≡ nextAt g s at → q ≡ nextAt g s at → r ≡ q
     next-determined g r q h k = determined r q h k
 
-    pub later-determined : (g : Reading) (r q : Read) → r ≡ laterAt g s at → q ≡ laterAt g s at → r ≡ q
+    pub later-determined : (g : Reading) (r q : Read) → r ≡ pastStartAt g s at → q ≡ pastStartAt g s at → r ≡ q
     later-determined g r q h k = determined r q h k
 
     pub read-determined : (g : Reading) (r q : Read) → r ≡ readAt g s at → q ≡ readAt g s at → r ≡ q
@@ -49,6 +49,6 @@ module _ (s : List ℕ) where
         → (q ≡ listOf g s (length out)) × (w ≡ sets out 0 (storedOf g s (length out))) → (r ≡ q) × (v ≡ w)
     list-determined r q v w h k = determined-both r q v w h k
 
-    pub outline-determined : (r q : Outlined) (v w : List ℕ) → (r ≡ outlineOf g s (length out)) × (v ≡ sets out 0 (writtenOf g s (length out)))
-        → (q ≡ outlineOf g s (length out)) × (w ≡ sets out 0 (writtenOf g s (length out))) → (r ≡ q) × (v ≡ w)
+    pub outline-determined : (r q : Outlined) (v w : List ℕ) → (r ≡ outlineOf g s (length out)) × (v ≡ sets out 0 (outlineWritten g s (length out)))
+        → (q ≡ outlineOf g s (length out)) × (w ≡ sets out 0 (outlineWritten g s (length out))) → (r ≡ q) × (v ≡ w)
     outline-determined r q v w h k = determined-both r q v w h k

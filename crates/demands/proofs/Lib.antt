@@ -1,3 +1,6 @@
+pub mod Inner
+pub mod Words
+pub mod Listed
 pub mod Flat
 pub mod Bridge
 pub mod Marked
@@ -6,5 +9,7 @@ pub mod Same
 pub mod Plains
 pub mod Outlines
 pub mod Lists
+pub mod Left
+pub mod Refused
 pub mod Demands
 pub mod Calls

@@ -9,9 +9,10 @@ use lib.ListN.{length}
 use borrow.Author.Tests.{le-leb, le-ltb, lt-leb, lt-ltb, ne-eqb}
 use Rattle.choice.specs.Rule.{nextIs}
 use Rattle.families.specs.Places.{placeAfter}
-use Rattle.families.specs.Shape.{Form, closeMark, commentForm, formKind, lineForm, openMark, stringForm, templateForm}
+use Rattle.families.specs.Shape.{Shape, commentShape, lineShape, markAfter, markBefore, shapeKind, stringShape, templateShape}
 use Rattle.laws.proofs.Cases.{both-false, never, split-eq}
 use Rattle.lexer.specs.Next.{isShebang}
+use Rattle.marks.specs.Marks.{closeMark, openMark}
 use Rattle.marks.specs.Shut.{isShut}
 use Rattle.numbers.specs.Kinds.{hasInside, numberOf, plainKind}
 use Rattle.outline.specs.Outline.{insideToken}
@@ -40,78 +41,78 @@ module _ (k : Token) (i : ℕ) where
   in-middle h l u = rw (h, le-leb (k .span .start + length (kept.openMark (k .kind))) i l, lt-ltb (i + length (kept.closeMark (k .kind))) (k .span .end) u)
 
 -- the marks by kind and by form, in bytes
-pub form-inside : (f : Form) → hasInside (formKind f) ≡ true
+pub form-inside : (f : Shape) → hasInside (shapeKind f) ≡ true
 unfolding numberOf
-form-inside lineForm = refl
-form-inside (commentForm true) = refl
-form-inside (commentForm false) = refl
-form-inside (stringForm true true) = refl
-form-inside (stringForm true false) = refl
-form-inside (stringForm false true) = refl
-form-inside (stringForm false false) = refl
-form-inside (templateForm c) = refl
+form-inside lineShape = refl
+form-inside (commentShape true) = refl
+form-inside (commentShape false) = refl
+form-inside (stringShape true true) = refl
+form-inside (stringShape true false) = refl
+form-inside (stringShape false true) = refl
+form-inside (stringShape false false) = refl
+form-inside (templateShape c) = refl
 
-pub form-opens : (f : Form) → kept.openMark (formKind f) ≡ openMark f
+pub form-opens : (f : Shape) → kept.openMark (shapeKind f) ≡ markBefore f
 unfolding kept.openMark numberOf
-form-opens lineForm = refl
-form-opens (commentForm true) = refl
-form-opens (commentForm false) = refl
-form-opens (stringForm true true) = refl
-form-opens (stringForm true false) = refl
-form-opens (stringForm false true) = refl
-form-opens (stringForm false false) = refl
-form-opens (templateForm c) = refl
+form-opens lineShape = refl
+form-opens (commentShape true) = refl
+form-opens (commentShape false) = refl
+form-opens (stringShape true true) = refl
+form-opens (stringShape true false) = refl
+form-opens (stringShape false true) = refl
+form-opens (stringShape false false) = refl
+form-opens (templateShape c) = refl
 
-pub form-closes : (f : Form) → kept.closeMark (formKind f) ≡ closeMark f
+pub form-closes : (f : Shape) → kept.closeMark (shapeKind f) ≡ markAfter f
 unfolding kept.closeMark numberOf isShut
-form-closes lineForm = refl
-form-closes (commentForm true) = refl
-form-closes (commentForm false) = refl
-form-closes (stringForm true true) = refl
-form-closes (stringForm true false) = refl
-form-closes (stringForm false true) = refl
-form-closes (stringForm false false) = refl
-form-closes (templateForm true) = refl
-form-closes (templateForm false) = refl
+form-closes lineShape = refl
+form-closes (commentShape true) = refl
+form-closes (commentShape false) = refl
+form-closes (stringShape true true) = refl
+form-closes (stringShape true false) = refl
+form-closes (stringShape false true) = refl
+form-closes (stringShape false false) = refl
+form-closes (templateShape true) = refl
+form-closes (templateShape false) = refl
 
-pub opens-far : (f : Form) (p : ℕ) → placeAfter width (openMark f) p ≡ p + length (openMark f)
+pub opens-far : (f : Shape) (p : ℕ) → placeAfter width (markBefore f) p ≡ p + length (markBefore f)
 unfolding placeAfter width
-opens-far lineForm p = omega arith
-opens-far (commentForm c) p = omega arith
-opens-far (stringForm true e) p = omega arith
-opens-far (stringForm false e) p = omega arith
-opens-far (templateForm c) p = omega arith
+opens-far lineShape p = omega arith
+opens-far (commentShape c) p = omega arith
+opens-far (stringShape true e) p = omega arith
+opens-far (stringShape false e) p = omega arith
+opens-far (templateShape c) p = omega arith
 
-pub closes-far : (f : Form) (p : ℕ) → placeAfter width (closeMark f) p ≡ p + length (closeMark f)
+pub closes-far : (f : Shape) (p : ℕ) → placeAfter width (markAfter f) p ≡ p + length (markAfter f)
 unfolding placeAfter width
-closes-far lineForm p = omega arith
-closes-far (commentForm true) p = omega arith
-closes-far (commentForm false) p = omega arith
-closes-far (stringForm b e) p = omega arith
-closes-far (templateForm true) p = omega arith
-closes-far (templateForm false) p = omega arith
+closes-far lineShape p = omega arith
+closes-far (commentShape true) p = omega arith
+closes-far (commentShape false) p = omega arith
+closes-far (stringShape b e) p = omega arith
+closes-far (templateShape true) p = omega arith
+closes-far (templateShape false) p = omega arith
 
-pub opens-some : (f : Form) → 0 < length (openMark f)
-opens-some lineForm = omega arith
-opens-some (commentForm c) = omega arith
-opens-some (stringForm true e) = omega arith
-opens-some (stringForm false e) = omega arith
-opens-some (templateForm c) = omega arith
+pub opens-some : (f : Shape) → 0 < length (markBefore f)
+opens-some lineShape = omega arith
+opens-some (commentShape c) = omega arith
+opens-some (stringShape true e) = omega arith
+opens-some (stringShape false e) = omega arith
+opens-some (templateShape c) = omega arith
 
 -- no mark starts as a shebang or with `.`
-pub opens-no-bang : (f : Form) (x : List ℕ) → isShebang (openMark f ++ x) ≡ false
-opens-no-bang lineForm x = refl
-opens-no-bang (commentForm c) x = refl
-opens-no-bang (stringForm true e) x = refl
-opens-no-bang (stringForm false e) x = refl
-opens-no-bang (templateForm c) x = refl
+pub opens-no-bang : (f : Shape) (x : List ℕ) → isShebang (markBefore f ++ x) ≡ false
+opens-no-bang lineShape x = refl
+opens-no-bang (commentShape c) x = refl
+opens-no-bang (stringShape true e) x = refl
+opens-no-bang (stringShape false e) x = refl
+opens-no-bang (templateShape c) x = refl
 
-pub opens-no-dot : (f : Form) (x : List ℕ) → nextIs 46 (openMark f ++ x) ≡ false
-opens-no-dot lineForm x = refl
-opens-no-dot (commentForm c) x = refl
-opens-no-dot (stringForm true e) x = refl
-opens-no-dot (stringForm false e) x = refl
-opens-no-dot (templateForm c) x = refl
+pub opens-no-dot : (f : Shape) (x : List ℕ) → nextIs 46 (markBefore f ++ x) ≡ false
+opens-no-dot lineShape x = refl
+opens-no-dot (commentShape c) x = refl
+opens-no-dot (stringShape true e) x = refl
+opens-no-dot (stringShape false e) x = refl
+opens-no-dot (templateShape c) x = refl
 
 -- a token without an inside has no escape mark
 pub plain-kind : (k : Kind) → hasInside k ≡ false → plainKind k ≡ k

@@ -12,16 +12,16 @@ use Rattle.demands.proofs.Same.{same-tokens}
 use Rattle.demands.specs.Plain.{inBytes, plainTokens}
 use Rattle.demands.specs.Scalars.{Even, flat}
 use Rattle.families.proofs.Ends.{bytes-after}
-use Rattle.families.specs.Moves.{withWide}
+use Rattle.families.specs.Moves.{withStride}
 use Rattle.families.specs.Sane.{Sane}
+use Rattle.families.specs.Tokens.{Tokens, tokensAt, tokensOf}
 use Rattle.laws.proofs.Cases.{split}
 use Rattle.laws.specs.Bools.{pick}
 use Rattle.outline.proofs.Shading.{paint-length}
 use Rattle.outline.specs.Outline.{insideAt, outlined, paint}
 use Rattle.readers.specs.Rules.{Rules}
-use Rattle.sound.specs.Source.{soundTo}
+use Rattle.source_test.specs.Source.{soundTo}
 use Rattle.text.specs.Utf8.{after, rest, width}
-use Rattle.tokens.specs.Tokens.{Tokens, tokensAt, tokensOf}
 
 paint-at : (m : ℕ → Bool) (s : List ℕ) (p i : ℕ) → i < length s → getD (paint m s p) i 0 ≡ pick (m (p + i)) 0x78 (getD s i 0)
 unfolding paint
@@ -37,8 +37,8 @@ paint-twice m m′ e (b ∷ s) p =
     (λ h. rw (e p, h) (ap (λ (l : List ℕ). b ∷ l) (paint-twice m m′ e s (suc p))))
 
 -- rules that count places in bytes
-own-bytes : (R : Rules) → R .wide ≡ width → inBytes R ≡ R
-own-bytes R e = λ i. withWide R (sym e i)
+own-bytes : (R : Rules) → R .stride ≡ width → inBytes R ≡ R
+own-bytes R e = λ i. withStride R (sym e i)
 
 module _ (R : Rules) (tick : R .start 96 ≡ false) (s : List ℕ) where
   abbrev mask : ℕ → Bool
@@ -67,7 +67,7 @@ module _ (R : Rules) (s : List ℕ) where
   unfolding outlined
   outline-bytes i h = let e : 0 + i ≡ i = omega arith in paint-at (insideAt (tokensAt R s 0)) s 0 i h ∙ ap (λ (q : ℕ). pick (insideAt (tokensAt R s 0) q) 0x78 (getD s i 0)) e
 
-module _ (R : Rules) (bytes : R .wide ≡ width) (sane : Sane R) where
+module _ (R : Rules) (bytes : R .stride ≡ width) (sane : Sane R) where
   module _ (s : List ℕ) (h : soundTo s ≡ length s) where
     pub outline-scalars : rest (outlined R s) 0 ≡ flat (insideAt (tokensAt R s 0)) (rest s 0) 0
     outline-scalars = subst (λ (X : Rules). rest (outlined X s) 0 ≡ flat (insideAt (tokensAt X s 0)) (rest s 0) 0) (own-bytes R bytes) (bytes-scalars R (sane .tick) s h)

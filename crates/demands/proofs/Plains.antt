@@ -4,14 +4,14 @@ use mathlib.Core.Path.{_≡_, refl, ap}
 use lib.Dec.{ltb}
 use borrow.Author.Tests.{ne-eqb}
 use Rattle.demands.specs.Plain.{plainToken, plainTokens}
-use Rattle.families.specs.Shape.{closeMark, openMark}
+use Rattle.families.specs.Tokens.{Tokens, fin, halt, more}
 use Rattle.laws.proofs.Cases.{split, split-eq}
+use Rattle.marks.specs.Marks.{closeMark, openMark}
 use Rattle.marks.specs.Shut.{isShut}
 use Rattle.numbers.specs.Kinds.{numberOf, plainKind}
 use Rattle.outline.specs.Outline.{insideAt, insideToken}
 use Rattle.token.specs.declared.kind.Kind.{Kind}
 use Rattle.token.specs.declared.read.Token.{Token}
-use Rattle.tokens.specs.Tokens.{Tokens, fin, halt, more}
 use Rattle.marks.specs.Marks as kept
 
 module _ (k : Kind) where

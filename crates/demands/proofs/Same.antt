@@ -10,9 +10,12 @@ use Rattle.demands.proofs.Flat.{Const, even-append, even-const, flat-af
 use Rattle.demands.proofs.Shown.{Shown, dot-plain, first-out, next-shown}
 use Rattle.demands.specs.Plain.{inBytes, plainToken, plainTokens}
 use Rattle.demands.specs.Scalars.{Even, flat}
+use Rattle.emitted.proofs.Fronts.{front}
+use Rattle.emitted.specs.Sequence.{ends}
 use Rattle.families.proofs.Ends.{after-le, next-consumes}
 use Rattle.families.specs.Near.{Near}
 use Rattle.families.specs.Places.{placeAfter}
+use Rattle.families.specs.Tokens.{Tokens, eachOf, fin, halt, more, tokensOf}
 use Rattle.laws.proofs.Cases.{never, split}
 use Rattle.lexer.specs.Next.{nextOf}
 use Rattle.outline.specs.Outline.{insideAt, insideToken}
@@ -24,7 +27,6 @@ use Rattle.token.specs.Reads.{reachedOf}
 use Rattle.token.specs.declared.read.Read.{Read}
 use Rattle.token.specs.declared.read.Read.the-variants.{Got, Refused}
 use Rattle.token.specs.declared.read.Token.{Token}
-use Rattle.tokens.specs.Tokens.{Tokens, eachOf, fin, halt, more, tokensOf}
 
 -- one token more
 module _ (k : Token) (ts : Tokens) (i : ℕ) where

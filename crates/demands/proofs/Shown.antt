@@ -12,17 +12,22 @@ use Rattle.demands.proofs.Flat.{Const, even-append, even-const, flat-al
 use Rattle.demands.proofs.Marked.{closes-far, form-closes, form-inside, form-opens, in-before, in-behind, in-middle, in-plain, opens-far, opens-no-bang, opens-no-dot, opens-some, plain-kind}
 use Rattle.demands.specs.Plain.{inBytes, plainToken}
 use Rattle.demands.specs.Scalars.{Even, flat}
+use Rattle.emitted.proofs.Fronts.{front}
+use Rattle.emitted.proofs.Shown.{shown}
+use Rattle.emitted.specs.Sequence.{ends}
 use Rattle.families.proofs.Ends.{after-append, after-le, next-cut}
 use Rattle.families.proofs.Local.{next-local}
 use Rattle.families.proofs.Shapes.{next-shaped}
 use Rattle.families.proofs.Shown.{token-shown}
+use Rattle.families.proofs.Starred.{reads}
 use Rattle.families.proofs.Starts.{next-start}
 use Rattle.families.specs.Near.{Near}
 use Rattle.families.specs.Places.{placeAfter}
 use Rattle.families.specs.Sane.{Sane}
-use Rattle.families.specs.Shape.{Form, Framed, Shaped, closeMark, openMark, xs}
+use Rattle.families.specs.Shape.{Framed, Shape, Shaped, markAfter, markBefore, xs}
 use Rattle.laws.proofs.Cases.{both-false, never, split}
 use Rattle.lexer.specs.Next.{closeSpan, nextOf}
+use Rattle.marks.specs.Marks.{closeMark, openMark}
 use Rattle.numbers.specs.Kinds.{hasInside}
 use Rattle.outline.specs.Outline.{insideToken}
 use Rattle.readers.specs.Readers.{shut}
@@ -35,7 +40,7 @@ use Rattle.token.specs.declared.kind.Kind.{Kind}
 use Rattle.token.specs.declared.read.Read.{Read}
 use Rattle.token.specs.declared.read.Read.the-variants.{Got, Refused}
 use Rattle.token.specs.declared.read.Token.{Token}
-use Rattle.tokens.proofs.Starred.{reads}
+use Rattle.unescape.specs.Bodies.{whole}
 use Rattle.marks.specs.Marks as kept
 
 -- rules in bytes are sane where no word starts with a backtick
@@ -48,7 +53,7 @@ closed-got n (Refused r) k = split (eqb (r .number) 12) (λ e. rw e (λ h. never
 
 module _ (R : Rules) (n : ℕ) where
   -- a mark before the token: no shebang
-  next-marked : (f : Form) (x : List ℕ) (p : ℕ) → nextOf (inBytes R) n (openMark f ++ x) p ≡ closeSpan n (tokenOf (inBytes R) 64 (openMark f ++ x) p)
+  next-marked : (f : Shape) (x : List ℕ) (p : ℕ) → nextOf (inBytes R) n (markBefore f ++ x) p ≡ closeSpan n (tokenOf (inBytes R) 64 (markBefore f ++ x) p)
   unfolding nextOf
   next-marked f x p = rw (opens-no-bang f x, both-false (eqb p 0))
 
@@ -90,10 +95,10 @@ module _ (R : Rules) (n : ℕ) where
 
     module _ (f : Framed (inBytes R) cs p k) where
       o : List ℕ
-      o = openMark (f .form)
+      o = markBefore (f .shape)
 
       c : List ℕ
-      c = closeMark (f .form)
+      c = markAfter (f .shape)
 
       -- the places at which the inside starts and ends
       lo : ℕ
@@ -104,29 +109,29 @@ module _ (R : Rules) (n : ℕ) where
 
       opens : length (kept.openMark (k .kind)) ≡ length o
       unfolding o
-      opens = ap (λ (x : Kind). length (kept.openMark x)) (f .kind) ∙ ap length (form-opens (f .form))
+      opens = ap (λ (x : Kind). length (kept.openMark x)) (f .kind) ∙ ap length (form-opens (f .shape))
 
       closes : length (kept.closeMark (k .kind)) ≡ length c
       unfolding c
-      closes = ap (λ (x : Kind). length (kept.closeMark x)) (f .kind) ∙ ap length (form-closes (f .form))
+      closes = ap (λ (x : Kind). length (kept.closeMark x)) (f .kind) ∙ ap length (form-closes (f .shape))
 
       marked : p < k .span .start + length (kept.openMark (k .kind))
       unfolding o
-      marked = omega (arith, opens, starts, opens-some (f .form))
+      marked = omega (arith, opens, starts, opens-some (f .shape))
 
       at-lo : placeAfter width o p ≡ lo
       unfolding o lo
-      at-lo = opens-far (f .form) p
+      at-lo = opens-far (f .shape) p
 
       ends-hi : hi + length c ≡ k .span .end
       unfolding hi lo o c
       ends-hi =
-          sym (closes-far (f .form) (placeAfter width (f .mid) (p + length (openMark (f .form)))))
-          ∙ (λ i. placeAfter width (closeMark (f .form)) (placeAfter width (f .mid) (sym (opens-far (f .form) p) i)))
+          sym (closes-far (f .shape) (placeAfter width (f .mid) (p + length (markBefore (f .shape)))))
+          ∙ (λ i. placeAfter width (markAfter (f .shape)) (placeAfter width (f .mid) (sym (opens-far (f .shape) p) i)))
           ∙ sym (f .ends)
 
       insides : hasInside (k .kind) ≡ true
-      insides = ap (λ (x : Kind). hasInside x) (f .kind) ∙ form-inside (f .form)
+      insides = ap (λ (x : Kind). hasInside x) (f .kind) ∙ form-inside (f .shape)
 
       lo-hi : lo ≤ hi
       unfolding hi
@@ -144,7 +149,7 @@ module _ (R : Rules) (n : ℕ) where
           after-append width o (f .mid ++ c) p
           ∙ after-append width (f .mid) c (placeAfter width o p)
           ∙ ap (λ (z : ℕ). placeAfter width c (placeAfter width (f .mid) z)) at-lo
-          ∙ closes-far (f .form) hi
+          ∙ closes-far (f .shape) hi
           ∙ ends-hi
 
       paints : (m : ℕ → Bool) → Agrees m p k → (flat m (parts (f .mid)) p ≡ parts (xs (placeAfter width (f .mid) 0))) × Even m (parts (f .mid)) p
@@ -156,7 +161,7 @@ module _ (R : Rules) (n : ℕ) where
           let t = ends-hi in
           let b = lo-hi in
           let d = at-lo in
-          let g = closes-far (f .form) hi in
+          let g = closes-far (f .shape) hi in
           let mark : Const m o p false = λ i h u. a i h (omega arith) ∙ in-before k i (omega arith) in
           let middle : Const m (f .mid) lo true = λ i h u. a i (omega arith) (omega arith) ∙ in-middle k i insides (omega arith) (omega arith) in
           let shut : Const m c hi false = λ i h u. a i (omega arith) (omega arith) ∙ in-behind k i (omega arith) in
@@ -174,7 +179,7 @@ module _ (R : Rules) (n : ℕ) where
           let j = placeAfter width (f .mid) 0 in
           let read : tokenOf B 64 cs p ≡ Got k =
           closed-got n (tokenOf B 64 cs p) k
-          (ap (λ (l : List ℕ). closeSpan n (tokenOf B 64 l p)) (f .whole) ∙ sym (next-marked (f .form) (f .mid ++ (closeMark (f .form) ++ f .back)) p) ∙ ap (λ (l : List ℕ). nextOf B n l p) (sym (f .whole)) ∙ e) in
+          (ap (λ (l : List ℕ). closeSpan n (tokenOf B 64 l p)) (f .whole) ∙ sym (next-marked (f .shape) (f .mid ++ (markAfter (f .shape) ++ f .back)) p) ∙ ap (λ (l : List ℕ). nextOf B n l p) (sym (f .whole)) ∙ e) in
           record {
             front = parts (f .mid);
             back = f .back;
@@ -184,7 +189,7 @@ module _ (R : Rules) (n : ℕ) where
             paints = paints;
             reads = λ x d.
                 ap (λ (l : List ℕ). nextOf B n l p) (joins (xs j) x)
-                ∙ next-marked (f .form) (xs j ++ (closeMark (f .form) ++ x)) p
+                ∙ next-marked (f .shape) (xs j ++ (markAfter (f .shape) ++ x)) p
                 ∙ ap (closeSpan n) (token-shown B (bytes-sane R tick) wide-x 63 cs p k read f x d);
           }
 
@@ -201,5 +206,5 @@ module _ (R : Rules) (n : ℕ) where
     pub dot-plain : nextIs 46 cs ≡ true → (i : ℕ) → insideToken k i ≡ false
     dot-plain d i =
         ⊎-elim (in-plain k i)
-        (λ f. never (let z = sym d ∙ ap (nextIs 46) (f .whole) ∙ opens-no-dot (f .form) (f .mid ++ (closeMark (f .form) ++ f .back)) in cc))
+        (λ f. never (let z = sym d ∙ ap (nextIs 46) (f .whole) ∙ opens-no-dot (f .shape) (f .mid ++ (markAfter (f .shape) ++ f .back)) in cc))
         (subst (λ (r : Read). Shaped (inBytes R) cs p r) e (next-shaped (inBytes R) n cs p))

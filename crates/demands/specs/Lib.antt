@@ -1,2 +1,4 @@
 pub mod Plain
 pub mod Scalars
+pub mod Refused
+pub mod Left

@@ -1,16 +1,16 @@
 -- Demand 3: tokens up to the escape mark of strings, and rules that count places in bytes.
 use Prim.Native.Nat.{ℕ}
 use mathlib.Core.List.{List, [], _∷_}
-use Rattle.families.specs.Moves.{withWide}
+use Rattle.families.specs.Moves.{withStride}
+use Rattle.families.specs.Tokens.{Tokens, fin, halt, more}
 use Rattle.numbers.specs.Kinds.{plainKind, plainNumber}
 use Rattle.readers.specs.Rules.{Rules}
 use Rattle.text.specs.Utf8.{width}
 use Rattle.token.specs.declared.read.Token.{Token}
-use Rattle.tokens.specs.Tokens.{Tokens, fin, halt, more}
 
 -- the rules R with places in bytes
 abbrev pub inBytes : Rules → Rules
-inBytes R = withWide R width
+inBytes R = withStride R width
 
 -- a token up to the escape mark
 abbrev pub plainToken : Token → Token

@@ -1,4 +1,4 @@
--- Painting by scalars: a painted scalar becomes as many x as it has bytes.
+-- No rule of document 01, for theorems: painting by scalars, where a painted one becomes as many x as it has bytes.
 use Prim.Native.Nat.{ℕ, _+_, _<_}
 use mathlib.Core.Path.{_≡_}
 use mathlib.Core.List.{List, [], _∷_, _++_}

@@ -3,13 +3,13 @@ use Prim.Native.Nat.{ℕ}
 use mathlib.Core.Path.{_≡_}
 use mathlib.Core.List.{List}
 use mathlib.Core.Bool.{Bool}
-use lib.ListN.{length}
 use lib.Seq.{sets}
-use Rattle.emitted.specs.Sequence.{Call, turnOf}
-use Rattle.laws.proofs.Determined.{determined}
+use lib.ListN.{length}
 use Rattle.ahead.proofs.Lent.{lent}
 use Rattle.ahead.specs.View.{freshBy, viewOf}
 use Rattle.ahead.specs.declared.Ahead.{Ahead}
+use Rattle.emitted.specs.Sequence.{Call, turnOf}
+use Rattle.laws.proofs.Determined.{determined}
 use Rattle.looks.specs.Buffer.{State}
 use Rattle.looks.specs.Calls.{Turn}
 use Rattle.looks.specs.declared.look.Looked.{Looked}

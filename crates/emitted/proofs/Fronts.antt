@@ -1,32 +1,32 @@
 -- Document 01's sentences on the lookahead: what was emitted is a front part of the list, and a call leaves a sound state. Assumes nothing.
-use Prim.Native.Nat.{ℕ, zero, suc, _+_, _*_, _/_, _≤_}
+use Prim.Native.Nat.{ℕ, _≤_}
 use mathlib.Core.Path.{_≡_, refl, sym, ap, ap₂, _∙_, subst}
 use mathlib.Core.List.{List, [], _∷_, _++_, append-assoc, append-nil}
 use mathlib.Core.Bool.{Bool, true, false}
 use native.Mathlib.Omega.{arith}
-use lib.Dec.{eqb, leb, ltb}
-use lib.ListN.{length, length-replicate}
+use lib.Dec.{leb, ltb, eqb}
+use lib.ListN.{length-replicate}
 use Rattle.ahead.specs.View.{freshBy}
 use Rattle.emitted.proofs.Goes.{Kept, goes}
 use Rattle.emitted.proofs.Parts.{kept-front, kept-words}
 use Rattle.emitted.proofs.Rises.{rises, total}
 use Rattle.emitted.proofs.Slots.{slots}
 use Rattle.emitted.proofs.Stays.{Sound, sound-bumped, sound-flushed, sound-gather, sound-is, sound-of}
-use Rattle.emitted.proofs.Steps.{Real, Step, Steps, Tidy, keptTo, step-kept}
-use Rattle.emitted.proofs.Views.{Sized, countsOf}
+use Rattle.emitted.proofs.Steps.{Real, Steps, Tidy, keptTo, step-kept}
+use Rattle.emitted.proofs.Views.{Sized}
 use Rattle.emitted.proofs.Weave.{keptFrom, pending, weave, words-append, wordsAll}
 use Rattle.emitted.proofs.Whole.{whole-real}
 use Rattle.emitted.specs.Sequence.{Call, IsFront, accepted, advances, arrays, bumps, bumpsIf, bumpsWhile, emitted, emittedBy, ends, fills, flushes, frontPart, glues, isEnd, nths, tokens, turnOf, without}
 use Rattle.laws.proofs.Cases.{both-false, never, split}
 use Rattle.laws.specs.Bools.{both}
 use Rattle.looks.proofs.Numbers.{count-bound}
+use Rattle.looks.proofs.Planning.{after}
 use Rattle.looks.specs.Buffer.{State}
 use Rattle.looks.specs.Calls.{Turn, advanceBy, advanceRefusal, arrayBy, arrayRefusal, bumpBy, bumpIfBy, fillBy, fillRefusal, flushBy, gluedBy, isEofBy, nthBy, nthTokenBy, refuses}
 use Rattle.looks.specs.Front.{yes}
 use Rattle.looks.specs.Numbered.{tokenCount}
 use Rattle.looks.specs.Sound.{boundedBy, countSum, soundBy, wholeBy}
 use Rattle.looks.specs.While.{bumpWhileBy, whileRefusal}
-use Rattle.looks.specs.declared.look.Looked.the-variants.{Refused}
 
 pub fresh-sized : (keep : Bool) → Sized (freshBy keep)
 fresh-sized keep = record { held = length-replicate {A = ℕ} 8 0; counts = length-replicate {A = ℕ} 8 0; waiting = length-replicate {A = ℕ} 256 0 }

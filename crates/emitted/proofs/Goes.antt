@@ -1,23 +1,22 @@
 -- Every call is made of gathering, bumping and flushing: what these three keep, a call keeps. Assumes nothing.
 use Prim.Native.Nat.{ℕ, zero, suc, _+_, _-_, _≤_, _<_}
-use mathlib.Core.Path.{_≡_, refl, sym, ap, ap₂, _∙_, subst}
-use mathlib.Core.List.{List, [], _∷_, _++_, append-nil}
+use mathlib.Core.Path.{_≡_, refl, sym, _∙_, subst}
+use mathlib.Core.List.{List, [], _++_}
 use mathlib.Core.Bool.{Bool, true, false}
 use native.Mathlib.Omega.{arith}
-use lib.Dec.{eqb, leb, ltb}
+use lib.Dec.{leb, eqb}
 use lib.ListN.{getD, length}
 use borrow.Author.Tests.{eqb-true, leb-true, ne-eqb}
 use Rattle.emitted.proofs.Stays.{Sound, sound-bumped, sound-flushed, sound-gather}
-use Rattle.emitted.proofs.Views.{bump-nums}
 use Rattle.emitted.specs.Sequence.{Call, advances, arrays, bumps, bumpsIf, bumpsWhile, emittedBy, ends, fills, flushes, glues, nths, tokens, turnOf}
-use Rattle.laws.proofs.Cases.{both-inv, split, split-eq, split-le}
+use Rattle.laws.proofs.Cases.{both-inv, split, split-eq}
 use Rattle.laws.specs.Bools.{pick}
-use Rattle.looks.proofs.Advances.{advance-none, array-none, less-facts}
 use Rattle.looks.proofs.Answers.{refusal-none}
 use Rattle.looks.proofs.Gathers.{gather-held}
+use Rattle.looks.proofs.Planning.{after}
 use Rattle.looks.proofs.Running.{plan-inv, while-planned, while-sound}
 use Rattle.looks.specs.Buffer.{State, fill, fits, fitsFor, gather, gatherAt, gatherNums, gathers}
-use Rattle.looks.specs.Calls.{Turn, advanceBy, advanceRefusal, advanceTurn, advanceWords, advanced, arrayBy, arrayRefusal, arrayTurn, bumpAnswer, bumpBy, bumpIfBy, bumped, fillBy, fillRefusal, filledBy, flushBy, flushTurn, flushed, frontTurn, gluedBy, gluedKind, isEofBy, nthBy, nthTokenBy, refuses, shows, storedBy, unless}
+use Rattle.looks.specs.Calls.{Turn, advanceBy, advanceRefusal, advanceTurn, advanceWords, advanced, arrayBy, arrayRefusal, arrayTurn, bumpAnswer, bumpBy, bumpIfBy, bumped, fillBy, fillRefusal, flushBy, flushTurn, flushed, frontTurn, gluedBy, gluedKind, isEofBy, nthBy, nthTokenBy, refuses, shows, storedBy, unless}
 use Rattle.looks.specs.Front.{frontWords, nthOf, whiteOf, whiteWords, yes}
 use Rattle.looks.specs.Numbered.{dark, tokenCount}
 use Rattle.looks.specs.While.{bumpWhileBy, goesOn, runOf, tokensLeft, whilePlan, whileRefusal, whileRun, whileTurn}

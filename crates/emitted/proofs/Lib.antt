@@ -10,3 +10,4 @@ pub mod Parts
 pub mod Fronts
 pub mod Calls
 pub mod Shown
+pub mod Refused

@@ -10,7 +10,7 @@ use Rattle.emitted.proofs.Slots.{range}
 use Rattle.emitted.proofs.Weave.{kept-all, keptFrom, wordsAll}
 use Rattle.emitted.specs.Sequence.{frontPart, without}
 use Rattle.laws.proofs.Cases.{never, split}
-use Rattle.laws.specs.Bools.{either, pick}
+use Rattle.laws.specs.Bools.{either}
 use Rattle.looks.specs.Numbered.{isWhite, kindAt, tokenAt}
 
 -- what stands in front of a row of kept numbers is one itself

@@ -6,7 +6,7 @@ use mathlib.Core.Bool.{true}
 use Rattle.ahead.specs.View.{freshBy}
 use Rattle.emitted.specs.Sequence.{Call, advances, arrays, bumps, bumpsIf, bumpsWhile, ends, fills, flushes, glues, nths, tokens, turnOf}
 use Rattle.looks.specs.Buffer.{State, fitsFor, gatherAt, gatherTo, gathers, queued}
-use Rattle.looks.specs.Calls.{Turn, advanceBy, advanceRefusal, advanceWords, advanced, arrayBy, arrayRefusal, arrayWords, bumpBy, bumpIfBy, fillBy, fillRefusal, flushBy, gluedBy, isEofBy, nthBy, nthTokenBy}
+use Rattle.looks.specs.Calls.{advanceBy, advanceRefusal, advanceWords, advanced, arrayBy, arrayRefusal, arrayWords, bumpBy, bumpIfBy, fillBy, fillRefusal, flushBy, gluedBy, isEofBy, nthBy, nthTokenBy}
 use Rattle.looks.specs.Front.{frontWhite, lessHeld, lessWaiting, nthWords, waitWords}
 use Rattle.looks.specs.Numbered.{darkFrom, listEnd, tokenCount}
 use Rattle.looks.specs.Sound.{ascendsBy, boundedBy, countSum, orderedBy, soundBy, wholeBy}

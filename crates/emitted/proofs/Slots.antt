@@ -5,6 +5,7 @@ use mathlib.Core.List.{List, [], _∷_, _++_, append-assoc, append-nil}
 use native.Mathlib.Omega.{arith}
 use lib.Seq.{getD-set-other, getD-set-same}
 use lib.ListN.{getD, length, length-set, set}
+use Rattle.ahead.proofs.spread.Parts.{apart}
 use Rattle.looks.specs.Buffer.{queued}
 
 -- n numbers from the slot `at` on

@@ -1,11 +1,11 @@
 -- A sound state stays sound when a token is gathered, bumped or flushed. Assumes nothing.
 use Prim.Native.Nat.{ℕ, zero, suc, _+_, _-_, _%_, _≤_, _<_}
-use mathlib.Core.Path.{_≡_, refl, sym, ap, ap₂, _∙_}
+use mathlib.Core.Path.{_≡_, sym, ap, ap₂, _∙_}
 use mathlib.Core.List.{List, [], _∷_, _++_}
 use mathlib.Core.Bool.{true, false}
 use native.Mathlib.Omega.{arith}
-use lib.Dec.{eqb, leb, ltb}
-use lib.ListN.{getD, length, length-set}
+use lib.Dec.{ltb, eqb}
+use lib.ListN.{getD, length-set}
 use borrow.Author.Tests.{eq-eqb, le-leb, le-ltb, lt-ltb}
 use Rattle.emitted.proofs.Rises.{ascends-rises, cons-rises, rises, rises-append, rises-behind, rises-none, rises-range, rises-top, sum-total, total, total-append, total-one}
 use Rattle.emitted.proofs.Slots.{range, slots}

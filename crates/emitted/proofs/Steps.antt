@@ -1,27 +1,28 @@
 -- What gathering, bumping and flushing emit: the next tokens that are kept, in the list's order. Assumes nothing.
-use Prim.Native.Nat.{ℕ, zero, suc, _+_, _-_, _%_, _≤_, _<_}
+use Prim.Native.Nat.{ℕ, _+_, _-_, _%_, _≤_, _<_}
 use mathlib.Core.Path.{_≡_, refl, sym, ap, ap₂, _∙_}
 use mathlib.Core.List.{List, [], _∷_, _++_, append-assoc, append-nil}
-use mathlib.Core.Bool.{Bool, true, false, not}
+use mathlib.Core.Bool.{Bool, true, false}
 use native.Mathlib.Omega.{arith}
 use lib.Dec.{ltb}
 use lib.ListN.{getD, length}
 use borrow.Author.Tests.{le-ltb, lt-ltb, ne-eqb}
 use Rattle.emitted.proofs.Goes.{Kept}
-use Rattle.emitted.proofs.Rises.{rises, rises-append, rises-before, rises-cons, total, total-append, total-one}
-use Rattle.emitted.proofs.Slots.{range, slots, slots-length}
+use Rattle.emitted.proofs.Rises.{rises, rises-before, rises-cons, total, total-append, total-one}
+use Rattle.emitted.proofs.Slots.{range, slots-length}
 use Rattle.emitted.proofs.Stays.{Sound, dark-at, gather-room, white-fits, white-to}
 use Rattle.emitted.proofs.Views.{bump-none, bump-nums, bump-rest, countsOf, frontOf, heldOf, views-bump, views-flush, views-last, views-more, views-none, wait-less, waitOf, white-all}
 use Rattle.emitted.proofs.Weave.{kept-dark, kept-split, kept-white, keptFrom, pending, range-length, wait-words, weave, weave-front, weave-none, weave-push, weave-wait, words-append, wordsAll}
 use Rattle.emitted.specs.Sequence.{isEnd, without}
-use Rattle.laws.proofs.Cases.{split, split-eq, split-le, within-inv}
+use Rattle.laws.proofs.Cases.{split-eq, split-le, within-inv}
 use Rattle.laws.specs.Bools.{pick}
-use Rattle.looks.proofs.Gathers.{gather-waits, white-bound}
+use Rattle.looks.proofs.Gathers.{gather-waits}
 use Rattle.looks.proofs.Numbers.{dark-bound}
+use Rattle.looks.proofs.Planning.{after}
 use Rattle.looks.specs.Buffer.{State, gather, gatherAt, gatherNums, gatherTo, keeps, whiteTo}
 use Rattle.looks.specs.Calls.{bumped, flushed}
-use Rattle.looks.specs.Front.{frontWords, lessHeld, lessWaiting, nthOf, nthWords, whiteOf, whiteWords}
-use Rattle.looks.specs.Numbered.{dark, eofWords, isWhite, kindAt, tokenAt, tokenCount}
+use Rattle.looks.specs.Front.{frontWords, lessWaiting, nthOf, nthWords, whiteOf, whiteWords}
+use Rattle.looks.specs.Numbered.{dark, eofWords, kindAt, tokenAt, tokenCount}
 use Rattle.looks.specs.declared.state.Nums.{Nums}
 
 -- no token of the list is an end-of-file token

@@ -7,11 +7,11 @@ use lib.Dec.{eqb}
 use lib.ListN.{getD, length, length-set}
 use borrow.Author.Tests.{eq-eqb, le-ltb, lt-ltb, ne-eqb}
 use Rattle.emitted.proofs.Slots.{range, ring-256, ring-8, slots, slots-front, slots-mod, slots-push, slots-queued, slots-split}
+use Rattle.laws.proofs.Cases.{split}
 use Rattle.looks.specs.Buffer.{State, gatherAt, gatherTo, queued, whiteTo}
 use Rattle.looks.specs.Calls.{bumped, flushed}
 use Rattle.looks.specs.Front.{frontWhite, lessHeld, lessWaiting, whiteOf}
 use Rattle.looks.specs.declared.state.Nums.{Nums}
-use Rattle.laws.proofs.Cases.{split}
 
 abbrev pub heldOf : State → List ℕ
 heldOf st = slots 8 (st .held) (st .nums .«held_at») (st .nums .«held_len»)

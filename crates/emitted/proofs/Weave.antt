@@ -1,7 +1,7 @@
 -- The tokens of a state in the list's order, and those of a list that are kept. Assumes nothing.
-use Prim.Native.Nat.{ℕ, zero, suc, _+_, _-_, _%_, _≤_, _<_}
+use Prim.Native.Nat.{ℕ, zero, suc, _+_, _%_, _≤_, _<_}
 use mathlib.Core.Path.{_≡_, refl, sym, ap, ap₂, _∙_}
-use mathlib.Core.List.{List, [], _∷_, _++_, append-assoc, append-nil}
+use mathlib.Core.List.{List, [], _∷_, _++_, append-assoc}
 use mathlib.Core.Bool.{Bool, true, false, not}
 use native.Mathlib.Omega.{arith}
 use lib.Seq.{drop-append-le, drop-at, drop-length, take-append-le, take-at, take-length}
@@ -75,9 +75,9 @@ weave-push (c ∷ cs) (h ∷ hs) ws vs p w t n e =
     ∙ sym (append-assoc (take c ws) (h ∷ weave cs hs (drop c ws)) (vs ++ (p ∷ [])))
 
 -- the first held token, after what waits before it
-pub weave-front : (c : ℕ) (cs : List ℕ) (h : ℕ) (hs front rest : List ℕ) → length front ≡ c → weave (c ∷ cs) (h ∷ hs) (front ++ rest) ≡ front ++ h ∷ weave cs hs rest
+pub weave-front : (c : ℕ) (cs : List ℕ) (h : ℕ) (hs before rest : List ℕ) → length before ≡ c → weave (c ∷ cs) (h ∷ hs) (before ++ rest) ≡ before ++ h ∷ weave cs hs rest
 unfolding weave
-weave-front c cs h hs front rest e = ap₂ (λ (a b : List ℕ). a ++ h ∷ weave cs hs b) (take-at front rest c e) (drop-at front rest c e)
+weave-front c cs h hs before rest e = ap₂ (λ (a b : List ℕ). a ++ h ∷ weave cs hs b) (take-at before rest c e) (drop-at before rest c e)
 
 pub weave-none : (hs ws : List ℕ) → weave [] hs ws ≡ ws
 unfolding weave

@@ -1,10 +1,10 @@
 -- A list that 34 does not refuse: its kinds, and how many tokens it has. Assumes nothing.
 use Prim.Native.Nat.{ℕ, zero, suc, _+_, _-_, _*_, _/_, _%_, _≤_, _<_}
-use mathlib.Core.Path.{_≡_, refl, sym, ap, _∙_}
+use mathlib.Core.Path.{_≡_, ap}
 use mathlib.Core.List.{List}
 use mathlib.Core.Bool.{true, false}
 use native.Mathlib.Omega.{arith}
-use lib.Dec.{eqb, ltb}
+use lib.Dec.{ltb, eqb}
 use lib.Seq.{getD-drop}
 use lib.ListN.{drop, getD, length}
 use borrow.Author.Tests.{eqb-true, ltb-true}
@@ -12,7 +12,7 @@ use Rattle.emitted.proofs.Steps.{Real}
 use Rattle.laws.proofs.Cases.{both-inv, never, split, split-eq, within-inv}
 use Rattle.laws.specs.Bools.{both, within}
 use Rattle.looks.proofs.Numbers.{count-bound, count-whole}
-use Rattle.looks.specs.Numbered.{kindAt, tokenCount}
+use Rattle.looks.specs.Numbered.{tokenCount}
 use Rattle.looks.specs.Sound.{good, wholeBy}
 use Rattle.rows.specs.Rows.{listCheck, recordCheck, rowsCheck, rowsOf, wordRow}
 

@@ -1,5 +1,5 @@
 -- Document 01, "The lookahead buffer": any sequence of calls, and what it has emitted.
-use Prim.Native.Nat.{ℕ, _*_, _/_, _≤_}
+use Prim.Native.Nat.{ℕ, _/_, _≤_}
 use mathlib.Core.Path.{_≡_}
 use mathlib.Core.List.{List, [], _∷_, _++_}
 use mathlib.Core.Bool.{Bool, true, false}
@@ -12,6 +12,7 @@ use Rattle.looks.specs.Numbered.{isWhite}
 use Rattle.looks.specs.While.{bumpWhileBy}
 use Rattle.looks.specs.declared.look.Looked.{Looked}
 use Rattle.looks.specs.declared.look.Looked.the-variants.{Done, Refused}
+use Rattle.rows.specs.Rows.{rowPlace, rowSize}
 
 -- a call with its arguments; those that write have the words of room that their store has. `peek` is `nth` of 0
 pub data Call : Type 0 where
@@ -72,11 +73,11 @@ isEnd kind = eqb kind 67
 
 -- the first tokens of a list, all of them or those that are no white space
 abbrev pub frontPart : Bool → List ℕ → ℕ → List ℕ
-frontPart keep l count = pick keep (take (count * 3) l) (without isWhite (take (count * 3) l))
+frontPart keep l count = pick keep (take (rowPlace count) l) (without isWhite (take (rowPlace count) l))
 
 pub record IsFront (keep : Bool) (l ws : List ℕ) : Type 0 where
   pub count : ℕ
-  pub few : count ≤ length l / 3
+  pub few : count ≤ length l / rowSize
   pub is : ws ≡ frontPart keep l count
 
 abbrev pub accepted : Looked → Bool

@@ -11,7 +11,7 @@ def keys(count):
 
 
 fill('skip_white', {
-    'Inv-loop': 'skipOf (rest s p) p ≡ skipOf (rest s at) at', 'μ-loop': 'length s - p',
+    'Inv-loop': 'skipWhite (rest s p) p ≡ skipWhite (rest s at) at', 'μ-loop': 'length s - p',
     'loop-holds': 'refl',
     'returns': 'skip-end _ _ $end$ ∙ @loop .inv',
     'returns-2': 'skip-stop _ _ $step$ $black$ ∙ @loop .inv',

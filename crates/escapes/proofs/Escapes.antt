@@ -6,9 +6,9 @@ use mathlib.Core.Bool.{Bool, true, false}
 use native.Mathlib.Omega.{arith}
 use borrow.Author.Tests.{eq-eqb, ne-eqb}
 use Rattle.classes.specs.Classes.{isWhiteSpace}
-use Rattle.digits.specs.Digits.{hexValue, isDigit, isHexDigit, isHighHex, isLowHex}
+use Rattle.classes.specs.Digits.{hexValue, isDigit, isHexDigit, isHighHex, isLowHex}
 use Rattle.encoding.specs.Encode.{isScalar}
-use Rattle.escapes.specs.Escapes.{byteEscape, byteTurn, charEscape, charTurn, closeOf, digitsOf, hexOf, hexSecond, sharedOf, shiftIn, skipOf, templateOf, unicodeOf}
+use Rattle.escapes.specs.Escapes.{byteEscape, byteTurn, charEscape, charTurn, closeOf, digitsOf, hexOf, hexSecond, onlyInTemplate, sharedOf, shiftIn, skipWhite, unicodeOf}
 use Rattle.escapes.specs.declared.Escape.the-variants.{Bad, Item}
 use Rattle.laws.proofs.Cases.{split, within-inv}
 use Rattle.text.proofs.Decode.{Step}
@@ -22,8 +22,8 @@ hex-small v =
     (λ l. split (isHighHex v) (λ h. let w = within-inv 0x41 0x46 v h in simp (d, l, h) (omega arith)) (λ h. simp (d, l, h) (omega arith))))
 
 module _ (s : List ℕ) (p : ℕ) where
-  pub skip-end : rest s p ≡ [] → p ≡ skipOf (rest s p) p
-  unfolding skipOf
+  pub skip-end : rest s p ≡ [] → p ≡ skipWhite (rest s p) p
+  unfolding skipWhite
   skip-end e = rw e
 
   pub second-end : (x : ℕ) → rest s p ≡ [] → Bad 24 p ≡ hexSecond x (rest s p) p
@@ -51,13 +51,13 @@ module _ (s : List ℕ) (p : ℕ) where
   char-end t l e = rw e
 
   module _ (v n : ℕ) (t : Step s p v n) where
-    pub skip-stop : isWhiteSpace v ≡ false → p ≡ skipOf (rest s p) p
-    unfolding skipOf
-    skip-stop h = rw (t .here) (rw (h, skipOf))
+    pub skip-stop : isWhiteSpace v ≡ false → p ≡ skipWhite (rest s p) p
+    unfolding skipWhite
+    skip-stop h = rw (t .here) (rw (h, skipWhite))
 
-    pub skip-more : isWhiteSpace v ≡ true → skipOf (rest s n) n ≡ skipOf (rest s p) p
-    unfolding skipOf
-    skip-more h = sym (rw (t .here) (rw (h, skipOf) (ap (skipOf (rest s n)) (sym (t .next)))))
+    pub skip-more : isWhiteSpace v ≡ true → skipWhite (rest s n) n ≡ skipWhite (rest s p) p
+    unfolding skipWhite
+    skip-more h = sym (rw (t .here) (rw (h, skipWhite) (ap (skipWhite (rest s n)) (sym (t .next)))))
 
     pub second-no : (x : ℕ) → isHexDigit v ≡ false → Bad 24 n ≡ hexSecond x (rest s p) p
     unfolding hexSecond
@@ -127,10 +127,10 @@ module _ (l : Bool) (v : ℕ) (cs : List ℕ) (p : ℕ) where
   unfolding charTurn
   char-shared m a b c d e f = rw (ne-eqb v 0x0a a, ne-eqb v 0x0d b, ne-eqb v 0x24 c, ne-eqb v 0x60 d, ne-eqb v 0x78 e, ne-eqb v 0x75 f)
 
-  pub char-dollar : (m : Bool) → v ≡ 0x24 → templateOf m v p ≡ charTurn m l v cs p
+  pub char-dollar : (m : Bool) → v ≡ 0x24 → onlyInTemplate m v p ≡ charTurn m l v cs p
   unfolding charTurn
-  char-dollar m h = subst (λ (x : ℕ). templateOf m x p ≡ charTurn m l x cs p) (sym h) refl
+  char-dollar m h = subst (λ (x : ℕ). onlyInTemplate m x p ≡ charTurn m l x cs p) (sym h) refl
 
-  pub char-backtick : (m : Bool) → v ≡ 0x60 → templateOf m v p ≡ charTurn m l v cs p
+  pub char-backtick : (m : Bool) → v ≡ 0x60 → onlyInTemplate m v p ≡ charTurn m l v cs p
   unfolding charTurn
-  char-backtick m h = subst (λ (x : ℕ). templateOf m x p ≡ charTurn m l x cs p) (sym h) refl
+  char-backtick m h = subst (λ (x : ℕ). onlyInTemplate m x p ≡ charTurn m l x cs p) (sym h) refl

@@ -4,31 +4,32 @@ use mathlib.Core.List.{List, [], _∷_}
 use mathlib.Core.Bool.{Bool, true, false}
 use lib.Dec.{leb, eqb}
 use Rattle.classes.specs.Classes.{isWhiteSpace}
-use Rattle.digits.specs.Digits.{hexValue, isHexDigit}
+use Rattle.classes.specs.Digits.{hexValue, isHexDigit}
 use Rattle.encoding.specs.Encode.{isScalar}
 use Rattle.escapes.specs.declared.Escape.{Escape}
 use Rattle.escapes.specs.declared.Escape.the-variants.{Bad, Item, Skipped}
 use Rattle.laws.specs.Bools.{both, pick}
+use Rattle.text.specs.Characters.{backslash, backtick, carriageReturn, closeBrace, dollar, doubleQuote, letterN, letterR, letterT, letterU, letterX, lineFeed, openBrace, quote}
 use Rattle.text.specs.Utf8.{width}
 
 -- after a backslash and a line end, LF or CR, White_Space is passed over: the place of the first scalar that is none
-unfoldable pub skipOf : List ℕ → ℕ → ℕ
-skipOf [] p = p
-skipOf (v ∷ cs) p = elim (isWhiteSpace v) [ true ↦ skipOf cs (p + width v) | false ↦ p ]
+unfoldable pub skipWhite : List ℕ → ℕ → ℕ
+skipWhite [] p = p
+skipWhite (v ∷ cs) p = elim (isWhiteSpace v) [ true ↦ skipWhite cs (p + width v) | false ↦ p ]
 
 -- .. in text, a template and byte text; in a char and a byte it is no escape: 20
 abbrev pub lineEnd : Bool → List ℕ → ℕ → Escape
-lineEnd lines cs p = pick lines (Skipped (skipOf cs p)) (Bad 20 p)
+lineEnd lines cs p = pick lines (Skipped (skipWhite cs p)) (Bad 20 p)
 
 -- shared: \' \" \n \r \t \\ \0; no other scalar is an escape: 20
 unfoldable pub sharedOf : ℕ → ℕ → Escape
 sharedOf v p =
-    pick (eqb v 0x27) (Item 0x27 p)
-    (pick (eqb v 0x22) (Item 0x22 p)
-    (pick (eqb v 0x6e) (Item 0x0a p)
-    (pick (eqb v 0x72) (Item 0x0d p)
-    (pick (eqb v 0x74) (Item 0x09 p)
-    (pick (eqb v 0x5c) (Item 0x5c p)
+    pick (eqb v quote) (Item quote p)
+    (pick (eqb v doubleQuote) (Item doubleQuote p)
+    (pick (eqb v letterN) (Item lineFeed p)
+    (pick (eqb v letterR) (Item carriageReturn p)
+    (pick (eqb v letterT) (Item 0x09 p)
+    (pick (eqb v backslash) (Item backslash p)
     (pick (eqb v 0x30) (Item 0x00 p) (Bad 20 p)))))))
 
 -- \x with two hex digits; 24 at another scalar or the end
@@ -58,36 +59,36 @@ closeOf some x p = pick (both some (isScalar x)) (Item x p) (Bad 22 p)
 unfoldable pub digitsOf : Bool → ℕ → List ℕ → ℕ → Escape
 digitsOf some x [] p = Bad 22 p
 digitsOf some x (v ∷ cs) p =
-    elim (eqb v 0x7d) [
+    elim (eqb v closeBrace) [
       | true ↦ closeOf some x (p + width v)
       | false ↦ elim (isHexDigit v) [ true ↦ digitsOf true (shiftIn x v) cs (p + width v) | false ↦ Bad 22 (p + width v) ]
     ]
 
 unfoldable pub unicodeOf : List ℕ → ℕ → Escape
 unicodeOf [] p = Bad 22 p
-unicodeOf (v ∷ cs) p = pick (eqb v 0x7b) (digitsOf false 0 cs (p + width v)) (Bad 22 (p + width v))
+unicodeOf (v ∷ cs) p = pick (eqb v openBrace) (digitsOf false 0 cs (p + width v)) (Bad 22 (p + width v))
 
 -- \` and \$ only in templates
-abbrev pub templateOf : Bool → ℕ → ℕ → Escape
-templateOf template v p = pick template (Item v p) (Bad 20 p)
+abbrev pub onlyInTemplate : Bool → ℕ → ℕ → Escape
+onlyInTemplate template v p = pick template (Item v p) (Bad 20 p)
 
 -- the scalar v after the backslash, and the scalars cs after it: in bytes, where \u is 21 ..
 unfoldable pub byteTurn : Bool → ℕ → List ℕ → ℕ → Escape
 byteTurn lines v cs p =
-    pick (eqb v 0x0a) (lineEnd lines cs p)
-    (pick (eqb v 0x0d) (lineEnd lines cs p)
-    (pick (eqb v 0x78) (hexOf cs p)
-    (pick (eqb v 0x75) (Bad 21 p) (sharedOf v p))))
+    pick (eqb v lineFeed) (lineEnd lines cs p)
+    (pick (eqb v carriageReturn) (lineEnd lines cs p)
+    (pick (eqb v letterX) (hexOf cs p)
+    (pick (eqb v letterU) (Bad 21 p) (sharedOf v p))))
 
 -- .. and in text
 unfoldable pub charTurn : Bool → Bool → ℕ → List ℕ → ℕ → Escape
 charTurn template lines v cs p =
-    pick (eqb v 0x0a) (lineEnd lines cs p)
-    (pick (eqb v 0x0d) (lineEnd lines cs p)
-    (pick (eqb v 0x24) (templateOf template v p)
-    (pick (eqb v 0x60) (templateOf template v p)
-    (pick (eqb v 0x78) (lowOnly (hexOf cs p))
-    (pick (eqb v 0x75) (unicodeOf cs p) (sharedOf v p))))))
+    pick (eqb v lineFeed) (lineEnd lines cs p)
+    (pick (eqb v carriageReturn) (lineEnd lines cs p)
+    (pick (eqb v dollar) (onlyInTemplate template v p)
+    (pick (eqb v backtick) (onlyInTemplate template v p)
+    (pick (eqb v letterX) (lowOnly (hexOf cs p))
+    (pick (eqb v letterU) (unicodeOf cs p) (sharedOf v p))))))
 
 -- a backslash at the end is 20
 unfoldable pub byteEscape : Bool → List ℕ → ℕ → Escape

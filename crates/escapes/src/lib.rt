@@ -8,7 +8,7 @@ use token::refusal::BAD_UNICODE_ESCAPE_IN_BYTE_STRING;
 ghost use Prim.Native.Nat.{_<_};
 ghost use mathlib.Core.Path.{_≡_};
 ghost use mathlib.Core.Bool.{false};
-ghost use Rattle.escapes.specs.Escapes.{byteEscape, charEscape, closeOf, digitsOf, hexOf, hexSecond, lineEnd, lowOnly, sharedOf, shiftIn, skipOf, templateOf, unicodeOf};
+ghost use Rattle.escapes.specs.Escapes.{byteEscape, charEscape, closeOf, digitsOf, hexOf, hexSecond, lineEnd, lowOnly, onlyInTemplate, sharedOf, shiftIn, skipWhite, unicodeOf};
 ghost use Rattle.text.specs.Utf8.{rest};
 
 // What an escape gives, and the place after the last scalar read: an item, nothing, or a refusal.
@@ -19,7 +19,7 @@ pub enum Escape {
 }
 
 fn skip_white(s: &[u8], at: usize) -> usize
-    ensures { λ r. ⌜ r ≡ skipOf (rest (now (s .entry)) at) at ⌝ }
+    ensures { λ r. ⌜ r ≡ skipWhite (rest (now (s .entry)) at) at ⌝ }
 {
     let mut p = at;
     loop {
@@ -90,7 +90,7 @@ pub fn parse_byte_escape(s: &[u8], at: usize, lines: bool) -> Escape
 
 // An escape that only templates have.
 fn template_escape(v: u32, next: usize, template: bool) -> Escape
-    ensures { λ r. ⌜ r ≡ templateOf template v next ⌝ }
+    ensures { λ r. ⌜ r ≡ onlyInTemplate template v next ⌝ }
 {
     if template {
         return Escape::Item { value: v, next };
@@ -149,13 +149,13 @@ fn parse_hex_escape(s: &[u8], at: usize) -> Escape
             next: at,
         };
     };
-    if !digits::is_ascii_hexdigit(value) {
+    if !classes::is_ascii_hexdigit(value) {
         return Escape::Bad {
             number: BAD_BYTE_ESCAPE,
             next,
         };
     }
-    hex_second(s, next, digits::hex_value(value))
+    hex_second(s, next, classes::hex_value(value))
 }
 
 // The second digit, after one that stands for x.
@@ -169,14 +169,14 @@ fn hex_second(s: &[u8], at: usize, x: u32) -> Escape
             next: at,
         };
     };
-    if !digits::is_ascii_hexdigit(value) {
+    if !classes::is_ascii_hexdigit(value) {
         return Escape::Bad {
             number: BAD_BYTE_ESCAPE,
             next,
         };
     }
     Escape::Item {
-        value: x * 16 + digits::hex_value(value),
+        value: x * 16 + classes::hex_value(value),
         next,
     }
 }
@@ -222,7 +222,7 @@ fn unicode_close(some: bool, x: u32, next: usize) -> Escape
 fn shift_in(x: u32, digit: u32) -> u32
     ensures { λ r. ⌜ r ≡ shiftIn x digit ⌝ }
 {
-    x % 0x10000000 * 16 + digits::hex_value(digit)
+    x % 0x10000000 * 16 + classes::hex_value(digit)
 }
 
 fn unicode_digits(s: &[u8], at: usize) -> Escape
@@ -241,7 +241,7 @@ fn unicode_digits(s: &[u8], at: usize) -> Escape
         if value == 0x7d {
             return unicode_close(some, x, next);
         }
-        if !digits::is_ascii_hexdigit(value) {
+        if !classes::is_ascii_hexdigit(value) {
             return Escape::Bad {
                 number: BAD_UNICODE_ESCAPE,
                 next,

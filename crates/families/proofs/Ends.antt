@@ -12,7 +12,7 @@ use Rattle.laws.specs.Bools.{both}
 use Rattle.lexer.specs.Next.{closeSpan, isShebang, nextOf, shebangOf}
 use Rattle.readers.proofs.Lands.{Lands, lands-le, line-lands}
 use Rattle.readers.specs.Rules.{Rules}
-use Rattle.readers.specs.Scan.{Wide}
+use Rattle.readers.specs.Scan.{Stride}
 use Rattle.templates.proofs.Landing.{NextLands, token-consumes, token-lands}
 use Rattle.templates.specs.Body.{tokenOf}
 use Rattle.text.specs.Utf8.{after, width}
@@ -21,7 +21,7 @@ use Rattle.token.specs.declared.kind.Kind.the-variants.{Shebang}
 use Rattle.token.specs.declared.read.Read.{Read}
 use Rattle.token.specs.declared.read.Read.the-variants.{Got, Refused}
 
-module _ (w : Wide) where
+module _ (w : Stride) where
   pub after-append : (f g : List ℕ) (p : ℕ) → placeAfter w (f ++ g) p ≡ placeAfter w g (placeAfter w f p)
   unfolding placeAfter
   after-append [] g p = refl
@@ -38,7 +38,7 @@ module _ (R : Rules) where
   lands-cut [] p r h = record { front = []; back = []; whole = refl; ends = sym h }
   lands-cut (v ∷ cs) p r (inl h) = record { front = []; back = v ∷ cs; whole = refl; ends = sym h }
   lands-cut (v ∷ cs) p r (inr h) =
-      let c = lands-cut cs (p + R .wide v) r h in
+      let c = lands-cut cs (p + R .stride v) r h in
       record { front = v ∷ c .front; back = c .back; whole = ap (λ (x : List ℕ). v ∷ x) (c .whole); ends = c .ends }
 
   -- the shebang and refusal 12's span change nothing here
@@ -46,11 +46,11 @@ module _ (R : Rules) where
   close-reached n (Got k) = refl
   close-reached n (Refused r) = split (eqb (r .number) 12) (λ e. rw (e, reachedOf) refl) (λ e. rw (e, reachedOf) refl)
 
-  bang-consumes : (v : ℕ) (cs : List ℕ) (p : ℕ) → Lands R cs (p + R .wide v) (reachedOf (shebangOf R (v ∷ cs) p))
-  bang-consumes v [] p = line-lands R p [] (p + R .wide v) Shebang
-  bang-consumes v (w ∷ cs) p = inr (line-lands R p cs (p + R .wide v + R .wide w) Shebang)
+  bang-consumes : (v : ℕ) (cs : List ℕ) (p : ℕ) → Lands R cs (p + R .stride v) (reachedOf (shebangOf R (v ∷ cs) p))
+  bang-consumes v [] p = line-lands R p [] (p + R .stride v) Shebang
+  bang-consumes v (w ∷ cs) p = inr (line-lands R p cs (p + R .stride v + R .stride w) Shebang)
 
-  pub next-consumes : (n v : ℕ) (cs : List ℕ) (p : ℕ) → Lands R cs (p + R .wide v) (reachedOf (nextOf R n (v ∷ cs) p))
+  pub next-consumes : (n v : ℕ) (cs : List ℕ) (p : ℕ) → Lands R cs (p + R .stride v) (reachedOf (nextOf R n (v ∷ cs) p))
   unfolding nextOf
   next-consumes n v cs p =
       split (both (eqb p 0) (isShebang (v ∷ cs))) (λ e. rw e (bang-consumes v cs p))
@@ -67,8 +67,8 @@ module _ (R : Rules) where
 
   -- at least one scalar, unless the scalars have ended
   module _ (sane : Sane R) where
-    past : (v : ℕ) (cs : List ℕ) (p r : ℕ) → Lands R cs (p + R .wide v) r → p < r
-    past v cs p r h = let k = lands-le R cs (p + R .wide v) r h in let w = sane .steps v in omega arith
+    past : (v : ℕ) (cs : List ℕ) (p r : ℕ) → Lands R cs (p + R .stride v) r → p < r
+    past v cs p r h = let k = lands-le R cs (p + R .stride v) r h in let w = sane .steps v in omega arith
 
     pub token-past : (d v : ℕ) (cs : List ℕ) (p : ℕ) → p < reachedOf (tokenOf R d (v ∷ cs) p)
     token-past d v cs p = past v cs p (reachedOf (tokenOf R d (v ∷ cs) p)) (token-consumes R d v cs p)

@@ -1,6 +1,7 @@
 pub mod Base
 pub mod Pairs
 pub mod Starts
+pub mod Refusals
 pub mod Ends
 pub mod Nearby
 pub mod Looks
@@ -13,3 +14,10 @@ pub mod Shapes
 pub mod Painted
 pub mod Shown
 pub mod Sooner
+pub mod Steps
+pub mod Cover
+pub mod Starred
+pub mod Depth
+pub mod Deeper
+pub mod Closings
+pub mod Switch

@@ -22,7 +22,7 @@ use Rattle.readers.proofs.Lands.{Lands, byte-lands, comment-lands, lands-le, li
 use Rattle.readers.specs.Readers.{byteOf, commentOf, lineOf, strOf}
 use Rattle.readers.specs.Rules.{Rules}
 use Rattle.templates.proofs.Landing.{NextLands, body-consumes, deepOf, token-lands, with-deep}
-use Rattle.templates.specs.Body.{bodyOf, goOn, templateOf, tokenOf}
+use Rattle.templates.specs.Body.{goOn, templateBody, templateOf, tokenOf}
 use Rattle.token.specs.Reads.{reachedOf}
 use Rattle.token.specs.declared.kind.Kind.the-variants.{Comment, Shebang}
 use Rattle.token.specs.declared.read.Read.{Read}
@@ -31,11 +31,11 @@ use Rattle.token.specs.declared.read.Token.{Token}
 
 module _ (R : Rules) (sane : Sane R) where
   behind-local : (g : List ℕ → ℕ → Read) → Local R g → NextLands R g → (c : ℕ) (f x y : List ℕ) (p : ℕ) → nextIs c (f ++ x) ≡ true
-      → reachedOf (behindOne R g (f ++ x) p) ≡ placeAfter (R .wide) f p → Near x y → behindOne R g (f ++ y) p ≡ behindOne R g (f ++ x) p
+      → reachedOf (behindOne R g (f ++ x) p) ≡ placeAfter (R .stride) f p → Near x y → behindOne R g (f ++ y) p ≡ behindOne R g (f ++ x) p
   unfolding placeAfter
   behind-local g k l c [] [] y p e r h = never (cc)
-  behind-local g k l c [] (w ∷ x) y p e r h = absurd (let z = lands-le R x (p + R .wide w) (reachedOf (g x (p + R .wide w))) (l x (p + R .wide w)) in let s = sane .steps w in omega arith)
-  behind-local g k l c (u ∷ f) x y p e r h = k f x y (p + R .wide u) r h
+  behind-local g k l c [] (w ∷ x) y p e r h = absurd (let z = lands-le R x (p + R .stride w) (reachedOf (g x (p + R .stride w))) (l x (p + R .stride w)) in let s = sane .steps w in omega arith)
+  behind-local g k l c (u ∷ f) x y p e r h = k f x y (p + R .stride u) r h
 
   abbrev DeepLocal : Deep → Type 0
   DeepLocal t = (a : ℕ) → Local R (t a)
@@ -43,13 +43,13 @@ module _ (R : Rules) (sane : Sane R) where
   first-local : (t : Deep) → DeepLocal t → (v a : ℕ) → Local R (firstOf R t v a)
   unfolding otherOf
   first-local t d v a f x y p r h =
-      first-both R R t t v a a (f ++ x) (f ++ y) p p (λ r r′. reachedOf r ≡ placeAfter (R .wide) f p → r′ ≡ r)
+      first-both R R t t v a a (f ++ x) (f ++ y) p p (λ r r′. reachedOf r ≡ placeAfter (R .stride) f p → r′ ≡ r)
       (λ c. next-head c (f ++ x) (f ++ y) (head-append f x y h)) refl
       (λ e. white-local R sane a f x y p e h)
-      (λ i e. behind-local (lineOf (R .wide) Comment a) (line-local R sane a Comment) (λ ds q. line-lands R a ds q Comment) 47 f x y p (both-inv (eqb v 47) (nextIs 47 (f ++ x)) i .1) e h)
-      (λ i e. behind-local (commentOf (R .wide) (R .skip) a) (comment-local R sane a) (comment-lands R a) 42 f x y p (both-inv (eqb v 47) (nextIs 42 (f ++ x)) i .1) e h)
-      (λ i e. behind-local (byteOf (R .wide) a) (byte-local R sane a) (byte-lands R a) 39 f x y p i e h)
-      (λ i e. behind-local (strOf (R .wide) true a) (str-local R sane a true) (λ ds q. str-lands R a ds q true) 34 f x y p (both-inv (eqb v 98) (nextIs 34 (f ++ x)) i .1) e h)
+      (λ i e. behind-local (lineOf (R .stride) Comment a) (line-local R sane a Comment) (λ ds q. line-lands R a ds q Comment) 47 f x y p (both-inv (eqb v 47) (nextIs 47 (f ++ x)) i .1) e h)
+      (λ i e. behind-local (commentOf (R .stride) (R .skip) a) (comment-local R sane a) (comment-lands R a) 42 f x y p (both-inv (eqb v 47) (nextIs 42 (f ++ x)) i .1) e h)
+      (λ i e. behind-local (byteOf (R .stride) a) (byte-local R sane a) (byte-lands R a) 39 f x y p i e h)
+      (λ i e. behind-local (strOf (R .stride) true a) (str-local R sane a true) (λ ds q. str-lands R a ds q true) 34 f x y p (both-inv (eqb v 98) (nextIs 34 (f ++ x)) i .1) e h)
       (λ i e. str-local R sane a false f x y p e h)
       (λ k e q z. rw (op-local R sane v f x y p (λ k′ e′ q′. let w : e′ ≡ e = cc in w ∙ z) h ∙ q))
       (λ q. op-local R sane v f x y p (λ k e z. never (cc)) h ∙ q)
@@ -57,17 +57,17 @@ module _ (R : Rules) (sane : Sane R) where
       (λ i e. d a f x y p e h) (λ e. refl) r
 
   -- a place reached before the end of a front cuts the front
-  front-cut : (f x : List ℕ) (p r : ℕ) → Lands R (f ++ x) p r → r ≤ placeAfter (R .wide) f p → Cut R f p r
+  front-cut : (f x : List ℕ) (p r : ℕ) → Lands R (f ++ x) p r → r ≤ placeAfter (R .stride) f p → Cut R f p r
   unfolding placeAfter
   front-cut [] x p r h l = record { front = []; back = []; whole = refl; ends = (let z = lands-le R x p r h in omega arith) }
   front-cut (v ∷ f) x p r (inl h) l = record { front = []; back = v ∷ f; whole = refl; ends = sym h }
   front-cut (v ∷ f) x p r (inr h) l =
-      let c = front-cut f x (p + R .wide v) r h l in
+      let c = front-cut f x (p + R .stride v) r h l in
       record { front = v ∷ c .front; back = c .back; whole = ap (λ (z : List ℕ). v ∷ z) (c .whole); ends = c .ends }
 
   module _ (next : List ℕ → ℕ → Read) (g : Local R next) (nl : NextLands R next) where
     -- so a token inside a front is read the same too
-    pub within-front : (f x y : List ℕ) (p : ℕ) → reachedOf (next (f ++ x) p) ≤ placeAfter (R .wide) f p → Near x y → next (f ++ y) p ≡ next (f ++ x) p
+    pub within-front : (f x y : List ℕ) (p : ℕ) → reachedOf (next (f ++ x) p) ≤ placeAfter (R .stride) f p → Near x y → next (f ++ y) p ≡ next (f ++ x) p
     within-front f x y p l h =
         let c = front-cut f x p (reachedOf (next (f ++ x) p)) (nl (f ++ x) p) l in
         let over : (z : List ℕ) → f ++ z ≡ c .front ++ (c .back ++ z) = λ z. ap (λ (b : List ℕ). b ++ z) (c .whole) ∙ append-assoc (c .front) (c .back) z in
@@ -77,21 +77,21 @@ module _ (R : Rules) (sane : Sane R) where
 
     module _ (a : ℕ) where
       -- a template goes at least to where it was sent
-      body-reach : (t : ℕ) (cs : List ℕ) (p l : ℕ) → Lands R cs p t → t ≤ reachedOf (bodyOf R next a t cs p l)
-      unfolding bodyOf
+      body-reach : (t : ℕ) (cs : List ℕ) (p l : ℕ) → Lands R cs p t → t ≤ reachedOf (templateBody R next a t cs p l)
+      unfolding templateBody
       body-reach t [] p l h = omega arith
       body-reach t (v ∷ cs) p l (inl h) =
-          let z = lands-le R cs (p + R .wide v) (reachedOf (bodyOf R next a t (v ∷ cs) p l)) (body-consumes R next nl a t v cs p l) in omega arith
+          let z = lands-le R cs (p + R .stride v) (reachedOf (templateBody R next a t (v ∷ cs) p l)) (body-consumes R next nl a t v cs p l) in omega arith
       body-reach t (v ∷ cs) p l (inr h) =
           let s = sane .steps v in
-          let k = lands-le R cs (p + R .wide v) t h in
-          rw (lt-ltb p t (omega arith), bodyOf) (body-reach t cs (p + R .wide v) l h)
+          let k = lands-le R cs (p + R .stride v) t h in
+          rw (lt-ltb p t (omega arith), templateBody) (body-reach t cs (p + R .stride v) l h)
 
       abbrev Ways : List ℕ → List ℕ → List ℕ → ℕ → Type 0
-      Ways f x y q = (t l : ℕ) → reachedOf (bodyOf R next a t (f ++ x) q l) ≡ placeAfter (R .wide) f q → bodyOf R next a t (f ++ y) q l ≡ bodyOf R next a t (f ++ x) q l
+      Ways f x y q = (t l : ℕ) → reachedOf (templateBody R next a t (f ++ x) q l) ≡ placeAfter (R .stride) f q → templateBody R next a t (f ++ y) q l ≡ templateBody R next a t (f ++ x) q l
 
-      on-local : (f x y : List ℕ) (q l : ℕ) → Ways f x y q → Near x y → (r : Read) → next (f ++ x) q ≡ r → reachedOf (goOn a r (λ t. bodyOf R next a t (f ++ x) q l)) ≡ placeAfter (R .wide) f q
-          → goOn a (next (f ++ y) q) (λ t. bodyOf R next a t (f ++ y) q l) ≡ goOn a r (λ t. bodyOf R next a t (f ++ x) q l)
+      on-local : (f x y : List ℕ) (q l : ℕ) → Ways f x y q → Near x y → (r : Read) → next (f ++ x) q ≡ r → reachedOf (goOn a r (λ t. templateBody R next a t (f ++ x) q l)) ≡ placeAfter (R .stride) f q
+          → goOn a (next (f ++ y) q) (λ t. templateBody R next a t (f ++ y) q l) ≡ goOn a r (λ t. templateBody R next a t (f ++ x) q l)
       on-local f x y q l w h (Got k) er e =
           let lands : Lands R (f ++ x) q (k .span .end) = subst (λ (r : Read). Lands R (f ++ x) q (reachedOf r)) er (nl (f ++ x) q) in
           let reach = body-reach (k .span .end) (f ++ x) q l lands in
@@ -110,19 +110,19 @@ module _ (R : Rules) (sane : Sane R) where
           let u : next (f ++ y) q ≡ Refused k = within-front f x y q (rw er (omega arith)) h ∙ er in
           rw u (rw (i, goOn) (w (k .reached) l e′)))
 
-      body-local : (t : ℕ) (f x y : List ℕ) (p l : ℕ) → reachedOf (bodyOf R next a t (f ++ x) p l) ≡ placeAfter (R .wide) f p → Near x y → bodyOf R next a t (f ++ y) p l ≡ bodyOf R next a t (f ++ x) p l
-      unfolding bodyOf placeAfter
+      body-local : (t : ℕ) (f x y : List ℕ) (p l : ℕ) → reachedOf (templateBody R next a t (f ++ x) p l) ≡ placeAfter (R .stride) f p → Near x y → templateBody R next a t (f ++ y) p l ≡ templateBody R next a t (f ++ x) p l
+      unfolding templateBody placeAfter
       body-local t [] [] [] p l r h = refl
       body-local t [] [] (w ∷ y) p l r h = absurd h
       body-local t [] (v ∷ x) y p l r h =
-          absurd (let z = lands-le R x (p + R .wide v) (reachedOf (bodyOf R next a t (v ∷ x) p l)) (body-consumes R next nl a t v x p l) in let s = sane .steps v in omega arith)
+          absurd (let z = lands-le R x (p + R .stride v) (reachedOf (templateBody R next a t (v ∷ x) p l)) (body-consumes R next nl a t v x p l) in let s = sane .steps v in omega arith)
       body-local t (v ∷ f) x y p l r h =
-          let q = p + R .wide v in
-          let go : List ℕ → ℕ → ℕ → Read = λ z t′ l′. bodyOf R next a t′ (f ++ z) q l′ in
-          split (ltb p t) (λ i. rw (i, bodyOf) (body-local t f x y q l (rw (i, bodyOf) at r) h))
-          (λ i. rw (i, bodyOf)
-          (turn-both next next a a v (f ++ x) (f ++ y) q q l (go x) (go y) (λ r r′. reachedOf r ≡ placeAfter (R .wide) f q → r′ ≡ r) (λ j e. refl)
-          (λ m e. body-local 0 f x y q m e h) (on-local f x y q l (λ t′ l′ e. body-local t′ f x y q l′ e h) h (next (f ++ x) q) refl) (rw (i, bodyOf) at r)))
+          let q = p + R .stride v in
+          let go : List ℕ → ℕ → ℕ → Read = λ z t′ l′. templateBody R next a t′ (f ++ z) q l′ in
+          split (ltb p t) (λ i. rw (i, templateBody) (body-local t f x y q l (rw (i, templateBody) at r) h))
+          (λ i. rw (i, templateBody)
+          (turn-both next next a a v (f ++ x) (f ++ y) q q l (go x) (go y) (λ r r′. reachedOf r ≡ placeAfter (R .stride) f q → r′ ≡ r) (λ j e. refl)
+          (λ m e. body-local 0 f x y q m e h) (on-local f x y q l (λ t′ l′ e. body-local t′ f x y q l′ e h) h (next (f ++ x) q) refl) (rw (i, templateBody) at r)))
 
   with-local : (d : ℕ) → DeepLocal (deepOf R d) → Local R (tokenOf R d)
   unfolding tokenWith placeAfter
@@ -130,8 +130,8 @@ module _ (R : Rules) (sane : Sane R) where
   with-local d g [] [] (w ∷ y) p r h = absurd h
   with-local d g [] (v ∷ x) y p r h = absurd (let z = token-past R sane d v x p in omega arith)
   with-local d g (v ∷ f) x y p r h =
-      let e : (z : List ℕ) → tokenOf R d (v ∷ z) p ≡ firstOf R (deepOf R d) v p z (p + R .wide v) = λ z. with-deep R d (v ∷ z) p in
-      e (f ++ y) ∙ first-local (deepOf R d) g v p f x y (p + R .wide v) (ap reachedOf (sym (e (f ++ x))) ∙ r) h ∙ sym (e (f ++ x))
+      let e : (z : List ℕ) → tokenOf R d (v ∷ z) p ≡ firstOf R (deepOf R d) v p z (p + R .stride v) = λ z. with-deep R d (v ∷ z) p in
+      e (f ++ y) ∙ first-local (deepOf R d) g v p f x y (p + R .stride v) (ap reachedOf (sym (e (f ++ x))) ∙ r) h ∙ sym (e (f ++ x))
 
   pub token-local : (d : ℕ) → Local R (tokenOf R d)
   unfolding deepOf templateOf
@@ -149,7 +149,7 @@ module _ (R : Rules) (sane : Sane R) where
       split (both (eqb p 0) (isShebang (v ∷ (f ++ x))))
       (λ e.
       let b = both-inv (eqb v 35) (nextIs 33 (f ++ x)) (both-inv (eqb p 0) (isShebang (v ∷ (f ++ x))) e .1) .1 in
-      rw (i, e) (behind-local (lineOf (R .wide) Shebang p) (line-local R sane p Shebang) (λ ds q. line-lands R p ds q Shebang) 33 f x y (p + R .wide v) b (rw e at r) h))
+      rw (i, e) (behind-local (lineOf (R .stride) Shebang p) (line-local R sane p Shebang) (λ ds q. line-lands R p ds q Shebang) 33 f x y (p + R .stride v) b (rw e at r) h))
       (λ e. rw (i, e) (ap (closeSpan n) (token-local 64 (v ∷ f) x y p (sym (close-reached R n (tokenOf R 64 (v ∷ (f ++ x)) p)) ∙ (rw e at r)) h)))
 
 -- an accepted token does not depend on where the source ends

@@ -4,18 +4,18 @@ use mathlib.Core.Path.{_≡_, refl, sym, ap}
 use mathlib.Core.List.{List, [], _∷_, _++_}
 use lib.Dec.{eqb}
 use Rattle.choice.specs.Rule.{nextIs}
-use Rattle.digits.specs.Digits.{isDigit}
-use Rattle.families.specs.Near.{Head, Near}
+use Rattle.classes.specs.Digits.{isDigit}
+use Rattle.families.specs.Near.{Near, SameFirst}
 use Rattle.laws.proofs.Cases.{never}
 use Rattle.readers.specs.Readers.{beginsDigit}
 
-pub near-head : (x y : List ℕ) → Near x y → Head x y
+pub near-head : (x y : List ℕ) → Near x y → SameFirst x y
 near-head [] [] h = tt
 near-head [] (w ∷ y) h = absurd h
 near-head (v ∷ x) [] h = absurd h
 near-head (v ∷ x) (w ∷ y) h = h .0
 
-pub head-append : (f x y : List ℕ) → Near x y → Head (f ++ x) (f ++ y)
+pub head-append : (f x y : List ℕ) → Near x y → SameFirst (f ++ x) (f ++ y)
 head-append [] x y h = near-head x y h
 head-append (v ∷ f) x y h = refl
 
@@ -39,13 +39,13 @@ near-end [] (w ∷ y) e h = absurd h
 near-end (v ∷ x) y e h = never (cc)
 
 -- what asks for one scalar answers alike
-pub next-head : (c : ℕ) (x y : List ℕ) → Head x y → nextIs c y ≡ nextIs c x
+pub next-head : (c : ℕ) (x y : List ℕ) → SameFirst x y → nextIs c y ≡ nextIs c x
 next-head c [] [] h = refl
 next-head c [] (w ∷ y) h = absurd h
 next-head c (v ∷ x) [] h = absurd h
 next-head c (v ∷ x) (w ∷ y) h = ap (λ (z : ℕ). eqb z c) (sym h)
 
-pub digit-head : (x y : List ℕ) → Head x y → beginsDigit y ≡ beginsDigit x
+pub digit-head : (x y : List ℕ) → SameFirst x y → beginsDigit y ≡ beginsDigit x
 digit-head [] [] h = refl
 digit-head [] (w ∷ y) h = absurd h
 digit-head (v ∷ x) [] h = absurd h

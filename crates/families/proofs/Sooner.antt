@@ -15,11 +15,11 @@ use Rattle.laws.specs.Bools.{both}
 use Rattle.lexer.specs.Next.{closeSpan, isShebang, nextAt, nextOf, shebangOf}
 use Rattle.readers.proofs.Lands.{lands-le, scan-lands}
 use Rattle.readers.proofs.Scans.{by-act}
-use Rattle.readers.specs.Readers.{Closing, byteOf, commentEnd, commentOf, commentStep, endedOf, lineOf, skips, starred, strOf}
+use Rattle.readers.specs.Readers.{Closing, afterStar, byteOf, commentEnd, commentOf, commentStep, endedOf, lineOf, skips, strOf}
 use Rattle.readers.specs.Rules.{Rules, firstClose, rulesOf, rune}
-use Rattle.readers.specs.Scan.{Wide, before, behind, on, scan}
+use Rattle.readers.specs.Scan.{Stride, before, behind, on, scan}
 use Rattle.templates.proofs.Landing.{deepOf, with-deep}
-use Rattle.templates.specs.Body.{bodyOf, goOn, templateOf, tokenOf}
+use Rattle.templates.specs.Body.{goOn, templateBody, templateOf, tokenOf}
 use Rattle.text.specs.Utf8.{rest}
 use Rattle.token.specs.Reads.{gotOf, spanOf}
 use Rattle.token.specs.declared.kind.Kind.the-variants.{Comment, MultilineComment, Shebang}
@@ -30,41 +30,41 @@ use Rattle.token.specs.declared.read.Token.{Token}
 -- the state a has gone at least as far towards a close as the state b
 abbrev Ahead : Closing → Closing → Type 0
 Ahead (skips i) (skips j) = i ≤ j
-Ahead (skips i) starred = ⊥
-Ahead starred (skips j) = Unit
-Ahead starred starred = Unit
+Ahead (skips i) afterStar = ⊥
+Ahead afterStar (skips j) = Unit
+Ahead afterStar afterStar = Unit
 
 -- at a scalar the one ahead closes the comment, or both go on and it stays ahead
-by-ahead {ℓ} : {X : Type ℓ} (a b : Closing) → Ahead a b → (v : ℕ) (cs : List ℕ) → (commentStep a v cs ≡ behind starred → X)
+by-ahead {ℓ} : {X : Type ℓ} (a b : Closing) → Ahead a b → (v : ℕ) (cs : List ℕ) → (commentStep a v cs ≡ behind afterStar → X)
     → ((a′ b′ : Closing) → Ahead a′ b′ → commentStep a v cs ≡ on a′ → commentStep b v cs ≡ on b′ → X) → X
 unfolding commentStep
-by-ahead (skips zero) (skips zero) h v cs f g = split (eqb v 42) (λ i. g starred starred tt (rw i) (rw i)) (λ i. g (skips 0) (skips 0) (omega arith) (rw i) (rw i))
-by-ahead (skips zero) (skips (suc j)) h v cs f g = split (eqb v 42) (λ i. g starred (skips j) tt (rw i) refl) (λ i. g (skips 0) (skips j) (omega arith) (rw i) refl)
+by-ahead (skips zero) (skips zero) h v cs f g = split (eqb v 42) (λ i. g afterStar afterStar tt (rw i) (rw i)) (λ i. g (skips 0) (skips 0) (omega arith) (rw i) (rw i))
+by-ahead (skips zero) (skips (suc j)) h v cs f g = split (eqb v 42) (λ i. g afterStar (skips j) tt (rw i) refl) (λ i. g (skips 0) (skips j) (omega arith) (rw i) refl)
 by-ahead (skips (suc i)) (skips zero) h v cs f g = absurd (omega arith)
 by-ahead (skips (suc i)) (skips (suc j)) h v cs f g = g (skips i) (skips j) (omega arith) refl refl
-by-ahead (skips i) starred h v cs f g = absurd h
-by-ahead starred (skips zero) h v cs f g =
+by-ahead (skips i) afterStar h v cs f g = absurd h
+by-ahead afterStar (skips zero) h v cs f g =
     split (eqb v 47) (λ i. f (rw i))
-    (λ i. split (eqb v 42) (λ j. g starred starred tt (rw (i, j)) (rw j)) (λ j. g (skips 0) (skips 0) (omega arith) (rw (i, j)) (rw j)))
-by-ahead starred (skips (suc k)) h v cs f g =
+    (λ i. split (eqb v 42) (λ j. g afterStar afterStar tt (rw (i, j)) (rw j)) (λ j. g (skips 0) (skips 0) (omega arith) (rw (i, j)) (rw j)))
+by-ahead afterStar (skips (suc k)) h v cs f g =
     split (eqb v 47) (λ i. f (rw i))
-    (λ i. split (eqb v 42) (λ j. g starred (skips k) tt (rw (i, j)) refl) (λ j. g (skips 0) (skips k) (omega arith) (rw (i, j)) refl))
-by-ahead starred starred h v cs f g =
+    (λ i. split (eqb v 42) (λ j. g afterStar (skips k) tt (rw (i, j)) refl) (λ j. g (skips 0) (skips k) (omega arith) (rw (i, j)) refl))
+by-ahead afterStar afterStar h v cs f g =
     split (eqb v 47) (λ i. f (rw i))
-    (λ i. split (eqb v 42) (λ j. g starred starred tt (rw (i, j)) (rw (i, j))) (λ j. g (skips 0) (skips 0) (omega arith) (rw (i, j)) (rw (i, j))))
+    (λ i. split (eqb v 42) (λ j. g afterStar afterStar tt (rw (i, j)) (rw (i, j))) (λ j. g (skips 0) (skips 0) (omega arith) (rw (i, j)) (rw (i, j))))
 
 -- no scalar is left unread by the scan of a comment
 never-before : (a b : Closing) (v : ℕ) (cs : List ℕ) → commentStep a v cs ≡ before b → ⊥
 unfolding commentStep
 never-before (skips zero) b v cs = split (eqb v 42) (λ i. rw i (λ e. never (cc))) (λ i. rw i (λ e. never (cc)))
 never-before (skips (suc k)) b v cs = λ e. never (cc)
-never-before starred b v cs = split (eqb v 47) (λ i. rw i (λ e. never (cc))) (λ i. split (eqb v 42) (λ j. rw (i, j) (λ e. never (cc))) (λ j. rw (i, j) (λ e. never (cc))))
+never-before afterStar b v cs = split (eqb v 47) (λ i. rw i (λ e. never (cc))) (λ i. split (eqb v 42) (λ j. rw (i, j) (λ e. never (cc))) (λ j. rw (i, j) (λ e. never (cc))))
 
-module _ (w : Wide) where
+module _ (w : Stride) where
   goes-past : (a : Closing) (l v : ℕ) (cs : List ℕ) (p : ℕ) → p + w v ≤ scan commentStep w a l (v ∷ cs) p .place
   unfolding scan
   goes-past a l v cs p =
-      let R : Rules = record { wide = w; skip = 0; start = λ u. false; continue = λ u. false } in
+      let R : Rules = record { stride = w; skip = 0; start = λ u. false; continue = λ u. false } in
       by-act (commentStep a v cs)
       (λ a′ e. rw (e, scan) (lands-le R cs (p + w v) (scan commentStep w a′ p cs (p + w v) .place) (scan-lands R commentStep a′ p cs (p + w v))))
       (λ a′ e. absurd (never-before a a′ v cs e)) (λ a′ e. rw (e, scan) (omega arith))
@@ -93,8 +93,8 @@ module _ (w : Wide) where
   open-same j k h cs p = ahead-open (skips j) (skips k) h p p cs p
 
   -- where the second scalar was tested and is a star, the third may close; it does not where the comment ends after it
-  at-third : (l l′ x : ℕ) (cs : List ℕ) (p : ℕ) → p + w x < scan commentStep w starred l (x ∷ cs) p .place
-      → endedOf (scan commentStep w (skips 0) l′ (x ∷ cs) p) ≡ endedOf (scan commentStep w starred l (x ∷ cs) p)
+  at-third : (l l′ x : ℕ) (cs : List ℕ) (p : ℕ) → p + w x < scan commentStep w afterStar l (x ∷ cs) p .place
+      → endedOf (scan commentStep w (skips 0) l′ (x ∷ cs) p) ≡ endedOf (scan commentStep w afterStar l (x ∷ cs) p)
   unfolding scan commentStep
   at-third l l′ x cs p =
       split (eqb x 47) (λ i. rw (i, scan, commentStep) (λ h. absurd (omega arith)))
@@ -135,14 +135,14 @@ module _ (R : Rules) where
   on-plain a (Got k) go g = g (k .span .end)
   on-plain a (Refused r) go g = split (eqb (r .number) 19) (λ e. rw (e, NoComment) tt) (λ e. rw (e, NoComment) (g (r .reached)))
 
-  body-plain : (next : List ℕ → ℕ → Read) (a t : ℕ) (cs : List ℕ) (p l : ℕ) → NoComment (bodyOf R next a t cs p l)
-  unfolding bodyOf
+  body-plain : (next : List ℕ → ℕ → Read) (a t : ℕ) (cs : List ℕ) (p l : ℕ) → NoComment (templateBody R next a t cs p l)
+  unfolding templateBody
   body-plain next a t [] p l = λ c e. never (cc)
   body-plain next a t (v ∷ cs) p l =
-      let q = p + R .wide v in
-      let go : ℕ → ℕ → Read = λ t′ l′. bodyOf R next a t′ cs q l′ in
-      split (ltb p t) (λ h. rw (h, bodyOf) (body-plain next a t cs q l))
-      (λ h. rw (h, bodyOf) (turn-both next next a a v cs cs q q l go go (λ r r′. NoComment r) (λ i c e. never (cc)) (λ m. body-plain next a 0 cs q m) (on-plain a (next cs q) (λ t′. go t′ l) (λ t′. body-plain next a t′ cs q l))))
+      let q = p + R .stride v in
+      let go : ℕ → ℕ → Read = λ t′ l′. templateBody R next a t′ cs q l′ in
+      split (ltb p t) (λ h. rw (h, templateBody) (body-plain next a t cs q l))
+      (λ h. rw (h, templateBody) (turn-both next next a a v cs cs q q l go go (λ r r′. NoComment r) (λ i c e. never (cc)) (λ m. body-plain next a 0 cs q m) (on-plain a (next cs q) (λ t′. go t′ l) (λ t′. body-plain next a t′ cs q l))))
 
   deep-plain : (d a : ℕ) (cs : List ℕ) (p : ℕ) → NoComment (deepOf R d a cs p)
   unfolding deepOf templateOf
@@ -157,28 +157,28 @@ module _ (R : Rules) (n : ℕ) where
 
   pub bang-same : (cs : List ℕ) (p : ℕ) → shebangOf (withSkip R n) cs p ≡ shebangOf R cs p
   bang-same [] p = refl
-  bang-same (v ∷ cs) p = behind-same (lineOf (R .wide) Shebang p) cs (p + R .wide v)
+  bang-same (v ∷ cs) p = behind-same (lineOf (R .stride) Shebang p) cs (p + R .stride v)
 
 module _ (R : Rules) (n : ℕ) (few : n ≤ R .skip) where
   abbrev Few : Rules
   Few = withSkip R n
 
-  comment-twin : (a : ℕ) (cs : List ℕ) (p : ℕ) → Twin (commentOf (R .wide) (R .skip) a cs p) (commentOf (R .wide) n a cs p)
+  comment-twin : (a : ℕ) (cs : List ℕ) (p : ℕ) → Twin (commentOf (R .stride) (R .skip) a cs p) (commentOf (R .stride) n a cs p)
   unfolding commentOf
   comment-twin a cs p =
-      let o = commentEnd (R .wide) (R .skip) cs p in
-      let o′ = commentEnd (R .wide) n cs p in
-      record { start = a; closed = o .closed; closed′ = o′ .closed; end = o .end; end′ = o′ .end; is = refl; is′ = refl; no-later = sooner (R .wide) n (R .skip) few cs p }
+      let o = commentEnd (R .stride) (R .skip) cs p in
+      let o′ = commentEnd (R .stride) n cs p in
+      record { start = a; closed = o .closed; closed′ = o′ .closed; end = o .end; end′ = o′ .end; is = refl; is′ = refl; no-later = sooner (R .stride) n (R .skip) few cs p }
 
-  behind-twin : (a : ℕ) (cs : List ℕ) (p : ℕ) → Twin (behindOne R (commentOf (R .wide) (R .skip) a) cs p) (behindOne Few (commentOf (R .wide) n a) cs p)
+  behind-twin : (a : ℕ) (cs : List ℕ) (p : ℕ) → Twin (behindOne R (commentOf (R .stride) (R .skip) a) cs p) (behindOne Few (commentOf (R .stride) n a) cs p)
   behind-twin a [] p = comment-twin a [] p
-  behind-twin a (v ∷ cs) p = comment-twin a cs (p + R .wide v)
+  behind-twin a (v ∷ cs) p = comment-twin a cs (p + R .stride v)
 
   first-beside : (t t′ : Deep) → ((a : ℕ) (cs : List ℕ) (p : ℕ) → NoComment (t a cs p) × NoComment (t′ a cs p)) → (v a : ℕ) (cs : List ℕ) (p : ℕ) → Beside (firstOf R t v a cs p) (firstOf Few t′ v a cs p)
   unfolding otherOf
   first-beside t t′ d v a cs p =
-      first-both R Few t t′ v a a cs cs p p Beside (λ c. refl) refl (inl refl) (λ h. inl (behind-same R n (lineOf (R .wide) Comment a) cs p)) (λ h. inr (inl (behind-twin a cs p)))
-      (λ h. inl (behind-same R n (byteOf (R .wide) a) cs p)) (λ h. inl (behind-same R n (strOf (R .wide) true a) cs p)) (λ h. inl refl) (λ k e q. rw q (inl refl)) (λ q. q)
+      first-both R Few t t′ v a a cs cs p p Beside (λ c. refl) refl (inl refl) (λ h. inl (behind-same R n (lineOf (R .stride) Comment a) cs p)) (λ h. inr (inl (behind-twin a cs p)))
+      (λ h. inl (behind-same R n (byteOf (R .stride) a) cs p)) (λ h. inl (behind-same R n (strOf (R .stride) true a) cs p)) (λ h. inl refl) (λ k e q. rw q (inl refl)) (λ q. q)
       (inl refl) (inl refl) (inl refl) (λ h. inr (inr (d a cs p))) (inl refl)
 
   token-beside : (d : ℕ) (cs : List ℕ) (p : ℕ) → Beside (tokenOf R d cs p) (tokenOf Few d cs p)
@@ -186,7 +186,7 @@ module _ (R : Rules) (n : ℕ) (few : n ≤ R .skip) where
   token-beside d [] p = rw (with-deep R d [] p, with-deep Few d [] p) (inl refl)
   token-beside d (v ∷ cs) p =
       rw (with-deep R d (v ∷ cs) p, with-deep Few d (v ∷ cs) p)
-      (first-beside (deepOf R d) (deepOf Few d) (λ a ds q. (deep-plain R d a ds q, deep-plain Few d a ds q)) v p cs (p + R .wide v))
+      (first-beside (deepOf R d) (deepOf Few d) (λ a ds q. (deep-plain R d a ds q, deep-plain Few d a ds q)) v p cs (p + R .stride v))
 
   close-plain : (m : ℕ) (r : Read) → NoComment r → NoComment (closeSpan m r)
   close-plain m (Got k) h = h

@@ -10,11 +10,11 @@ use Rattle.families.proofs.Pairs.{turn-both}
 use Rattle.laws.proofs.Cases.{split}
 use Rattle.laws.specs.Bools.{both}
 use Rattle.lexer.specs.Next.{closeSpan, isShebang, nextOf}
-use Rattle.readers.specs.Readers.{Bytes, Chars, Quoted, body, broken, byteAnswer, byteOf, byteStep, charAnswer, charOf, charStep, commentOf, control, escape, fresh, letters, lineOf, numberLitOf, shut, slash, slashed, strAnswer, strOf, strStep, text, whiteOf, wordOf}
+use Rattle.readers.specs.Readers.{Bytes, Chars, Quoted, backslashed, body, broken, byteAnswer, byteOf, byteStep, charAnswer, charOf, charStep, commentOf, control, escape, fresh, letters, lineOf, numberLitOf, shut, slashed, strAnswer, strOf, strStep, text, whiteOf, wordOf}
 use Rattle.readers.specs.Rules.{Rules}
 use Rattle.readers.specs.Scan.{How, ended, full, scan, short}
 use Rattle.templates.proofs.Landing.{deepOf, with-deep}
-use Rattle.templates.specs.Body.{bodyOf, goOn, templateOf, tokenOf}
+use Rattle.templates.specs.Body.{goOn, templateBody, templateOf, tokenOf}
 use Rattle.token.specs.declared.kind.Kind.the-variants.{Comment, Shebang}
 use Rattle.token.specs.declared.read.Read.{Read}
 use Rattle.token.specs.declared.read.Read.the-variants.{Got, Refused}
@@ -30,11 +30,11 @@ module _ (R : Rules) where
 
   behind-starts : (f : List ℕ → ℕ → Read) (a : ℕ) → StartsAt f a → StartsAt (behindOne R f) a
   behind-starts f a h [] p = h [] p
-  behind-starts f a h (v ∷ cs) p = h cs (p + R .wide v)
+  behind-starts f a h (v ∷ cs) p = h cs (p + R .stride v)
 
   byte-starts : (a : ℕ) (st : Bytes) (l p : ℕ) (h : How) → Starts (byteAnswer a st l p h) a
   byte-starts a fresh l p h = tt
-  byte-starts a slash l p h = tt
+  byte-starts a backslashed l p h = tt
   byte-starts a control l p h = tt
   byte-starts a body l p full = refl
   byte-starts a body l p ended = tt
@@ -59,25 +59,25 @@ module _ (R : Rules) where
   first-starts : (t : Deep) → ((a : ℕ) → StartsAt (t a) a) → (v a : ℕ) (cs : List ℕ) (p : ℕ) → Starts (firstOf R t v a cs p) a
   unfolding whiteOf lineOf commentOf byteOf strOf wordOf numberLitOf charOf
   first-starts t d v a cs p =
-      let str : (b : Bool) → StartsAt (strOf (R .wide) b a) a = λ b ds q. let o = scan strStep (R .wide) (text false) q ds q in str-starts b a (o .state) (o .last) (o .place) (o .how) in
-      first-cases R t v a cs p (λ r. Starts r a) refl (λ h. behind-starts (lineOf (R .wide) Comment a) a (λ ds q. refl) cs p)
-      (λ h. behind-starts (commentOf (R .wide) (R .skip) a) a (λ ds q. refl) cs p)
-      (λ h. behind-starts (byteOf (R .wide) a) a (λ ds q. let o = scan byteStep (R .wide) fresh q ds q in byte-starts a (o .state) (o .last) (o .place) (o .how)) cs p)
-      (λ h. behind-starts (strOf (R .wide) true a) a (str true) cs p) (str false cs p) (λ k e h. refl) refl refl
-      (let o = scan charStep (R .wide) (letters true false) p cs p in char-starts a (o .state) (o .last) (o .place)) (d a cs p) tt
+      let str : (b : Bool) → StartsAt (strOf (R .stride) b a) a = λ b ds q. let o = scan strStep (R .stride) (text false) q ds q in str-starts b a (o .state) (o .last) (o .place) (o .how) in
+      first-cases R t v a cs p (λ r. Starts r a) refl (λ h. behind-starts (lineOf (R .stride) Comment a) a (λ ds q. refl) cs p)
+      (λ h. behind-starts (commentOf (R .stride) (R .skip) a) a (λ ds q. refl) cs p)
+      (λ h. behind-starts (byteOf (R .stride) a) a (λ ds q. let o = scan byteStep (R .stride) fresh q ds q in byte-starts a (o .state) (o .last) (o .place) (o .how)) cs p)
+      (λ h. behind-starts (strOf (R .stride) true a) a (str true) cs p) (str false cs p) (λ k e h. refl) refl refl
+      (let o = scan charStep (R .stride) (letters true false) p cs p in char-starts a (o .state) (o .last) (o .place)) (d a cs p) tt
 
   on-starts : (a : ℕ) (r : Read) (go : ℕ → Read) → ((t : ℕ) → Starts (go t) a) → Starts (goOn a r go) a
   on-starts a (Got k) go g = g (k .span .end)
   on-starts a (Refused r) go g = split (eqb (r .number) 19) (λ e. rw (e, Starts) tt) (λ e. rw (e, Starts) (g (r .reached)))
 
   module _ (next : List ℕ → ℕ → Read) (a : ℕ) where
-    body-starts : (t : ℕ) (cs : List ℕ) (p l : ℕ) → Starts (bodyOf R next a t cs p l) a
-    unfolding bodyOf
+    body-starts : (t : ℕ) (cs : List ℕ) (p l : ℕ) → Starts (templateBody R next a t cs p l) a
+    unfolding templateBody
     body-starts t [] p l = refl
     body-starts t (v ∷ cs) p l =
-        let q = p + R .wide v in
-        split (ltb p t) (λ h. rw (h, bodyOf) (body-starts t cs q l))
-        (λ h. rw (h, bodyOf) (let go : ℕ → ℕ → Read = λ t′ l′. bodyOf R next a t′ cs q l′ in turn-both next next a a v cs cs q q l go go (λ r r′. Starts r a) (λ i. refl) (λ m. body-starts 0 cs q m) (on-starts a (next cs q) (λ t′. go t′ l) (λ t′. body-starts t′ cs q l))))
+        let q = p + R .stride v in
+        split (ltb p t) (λ h. rw (h, templateBody) (body-starts t cs q l))
+        (λ h. rw (h, templateBody) (let go : ℕ → ℕ → Read = λ t′ l′. templateBody R next a t′ cs q l′ in turn-both next next a a v cs cs q q l go go (λ r r′. Starts r a) (λ i. refl) (λ m. body-starts 0 cs q m) (on-starts a (next cs q) (λ t′. go t′ l) (λ t′. body-starts t′ cs q l))))
 
   deep-starts : (d a : ℕ) → StartsAt (deepOf R d a) a
   unfolding deepOf templateOf
@@ -87,7 +87,7 @@ module _ (R : Rules) where
   pub token-starts : (d : ℕ) (cs : List ℕ) (p : ℕ) → Starts (tokenOf R d cs p) p
   unfolding tokenWith
   token-starts d [] p = rw (with-deep R d [] p) refl
-  token-starts d (v ∷ cs) p = rw (with-deep R d (v ∷ cs) p) (first-starts (deepOf R d) (deep-starts d) v p cs (p + R .wide v))
+  token-starts d (v ∷ cs) p = rw (with-deep R d (v ∷ cs) p) (first-starts (deepOf R d) (deep-starts d) v p cs (p + R .stride v))
 
   close-starts : (n a : ℕ) (r : Read) → Starts r a → Starts (closeSpan n r) a
   close-starts n a (Got k) h = h
@@ -97,7 +97,7 @@ module _ (R : Rules) where
   unfolding nextOf lineOf
   next-starts n cs p =
       split (both (eqb p 0) (isShebang cs))
-      (λ e. rw e (behind-starts (λ ds q. behindOne R (lineOf (R .wide) Shebang p) ds q) p (behind-starts (lineOf (R .wide) Shebang p) p (λ ds q. refl)) cs p))
+      (λ e. rw e (behind-starts (λ ds q. behindOne R (lineOf (R .stride) Shebang p) ds q) p (behind-starts (lineOf (R .stride) Shebang p) p (λ ds q. refl)) cs p))
       (λ e. rw e (close-starts n p (tokenOf R 64 cs p) (token-starts 64 cs p)))
 
   -- the same, of an answer

@@ -1,4 +1,4 @@
--- Places counted otherwise: rules that differ only in how far a scalar moves the place, and answers with their places mapped.
+-- No rule of document 01, for theorems: places counted otherwise, by rules that differ only in how far a scalar moves the place, and answers with their places mapped.
 use Prim.Native.Nat.{ℕ, _+_}
 use mathlib.Core.Path.{_≡_}
 use mathlib.Core.List.{List, [], _∷_}
@@ -12,13 +12,13 @@ use Rattle.token.specs.declared.read.Refusal.{Refusal}
 use Rattle.token.specs.declared.read.Span.{Span}
 use Rattle.token.specs.declared.read.Token.{Token}
 
-abbrev pub withWide : Rules → (ℕ → ℕ) → Rules
-withWide R w = record { wide = w; skip = R .skip; start = R .start; continue = R .continue }
+abbrev pub withStride : Rules → (ℕ → ℕ) → Rules
+withStride R w = record { stride = w; skip = R .skip; start = R .start; continue = R .continue }
 
 -- g takes the places of the scalars cs, by R from p, to their places by the width w from g p
 abbrev pub Moves : Rules → (ℕ → ℕ) → (ℕ → ℕ) → List ℕ → ℕ → Type 0
 Moves R w g [] p = Unit
-Moves R w g (v ∷ cs) p = (g (p + R .wide v) ≡ g p + w v) × Moves R w g cs (p + R .wide v)
+Moves R w g (v ∷ cs) p = (g (p + R .stride v) ≡ g p + w v) × Moves R w g cs (p + R .stride v)
 
 module _ (g : ℕ → ℕ) where
   abbrev pub mapSpan : Span → Span
@@ -36,7 +36,7 @@ module _ (g : ℕ → ℕ) where
 
 -- places that count scalars, and the place by R of the i-th of the scalars cs
 abbrev pub counting : Rules → Rules
-counting R = withWide R (λ v. 1)
+counting R = withStride R (λ v. 1)
 
 unfoldable pub placeOf : Rules → List ℕ → ℕ → ℕ
-placeOf R cs i = placeAfter (R .wide) (take i cs) 0
+placeOf R cs i = placeAfter (R .stride) (take i cs) 0

@@ -112,16 +112,8 @@ fill('walk/find_all', {
     'find-tokens-requires': '(@Start .pre, all-went $w$ .in-store, all-went $w$ .few)',
     'returns-2': 'all-then $w$ _ _ (@find-tokens .ensures)'}, macros=L)
 W = dict(M, o='(@Start .args .store .now)', r='(length $o$)')
-
-
-def refused(call, case, told):
-    return f'let w = found-by-test $g$ $s$ $r$ {case} (sym ({told}) ∙ @test-source .ensures) in (@{call} .ensures ∙ sym (w .0), sym (ap (sets $o$ 0) (w .1)))'
-
-
 fill('walk/findings', {
     'find-all-requires': 'sound-inv $s$ (sym (@test-source .ensures) ∙ @enum-told .given .1) .0',
     'same-length': '@find-all .kept .1 .1 .0',
     'returns': 'let w = found-by-test $g$ $s$ $r$ Sound (sym (@enum-told .given .1) ∙ @test-source .ensures) in (@find-all .ensures .0 ∙ sym (w .0), @find-all .ensures .1 ∙ sym (ap (sets $o$ 0) (w .1)))',
-    'returns-2': refused('refused-at', 'TooLong', '@enum-told2 .given .1'),
-    'returns-3': refused('refused-at2', '(IllFormed (@at .given .0 .0))', '@at .given .1'),
-    'returns-4': refused('refused-at3', '(Misplaced (@at2 .given .0 .0))', '@at2 .given .1')}, macros=W)
+    'returns-2': 'let w = found-by-test $g$ $s$ $r$ (Unsound (@refusal .given .0 .0)) (sym (@refusal .given .1) ∙ @test-source .ensures) in (sym (w .0), sym (ap (sets $o$ 0) (w .1)))'}, macros=W)

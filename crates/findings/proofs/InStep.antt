@@ -8,6 +8,9 @@ use native.Mathlib.Omega.{arith}
 use lib.Dec.{leb, ltb, eqb}
 use lib.ListN.{length}
 use borrow.Author.Tests.{eq-eqb, eqb-true, le-ltb}
+use Rattle.families.proofs.Cover.{by-read}
+use Rattle.families.proofs.Steps.{next-end, refused-past, tokens-fin, tokens-halt, tokens-more, tokens-past, tokens-past-step, tokens-start}
+use Rattle.families.specs.Tokens.{Tokens, fin, halt, more, tokensAt}
 use Rattle.findings.proofs.Readings.{go-onward, head-next, stay-end, stay-over, stay-refused}
 use Rattle.findings.proofs.Turns.{afterOf, found-by-test, walk-turn}
 use Rattle.findings.specs.Findings.{across, alike, alone, answerFound, endsAs, findingsOf, foundOf, fromOf, headOf, holdsAt, listed, markOf, onward, runsOn, runsOnCode, underFirst, walkAt}
@@ -17,15 +20,15 @@ use Rattle.laws.proofs.Cases.{both-inv, never, split, split-eq}
 use Rattle.laws.specs.Bools.{both, pick}
 use Rattle.lexer.specs.Next.{nextAt}
 use Rattle.listing.proofs.Stores.{by-test}
-use Rattle.listing.specs.Listing.{answerOf, listOf, storedOf, wordsOf}
+use Rattle.listing.specs.Listing.{listAnswer, listOf, listedWords, storedOf}
 use Rattle.listing.specs.declared.Listed.the-variants.{Stopped, Whole}
 use Rattle.marks.specs.Marks.{closeMark}
 use Rattle.numbers.specs.Kinds.{numberOf}
 use Rattle.readers.specs.Rules.{rulesOf}
 use Rattle.readers.specs.declared.reading.Reading.{Reading}
-use Rattle.sound.specs.Source.{sourceTest}
-use Rattle.sound.specs.declared.Tested.{Tested}
-use Rattle.sound.specs.declared.Tested.the-variants.{IllFormed, Misplaced, Sound, TooLong}
+use Rattle.source_test.specs.Source.{sourceTest}
+use Rattle.source_test.specs.declared.Tested.{Tested}
+use Rattle.source_test.specs.declared.Tested.the-variants.{Sound, Unsound}
 use Rattle.text.proofs.Decode.{by-step}
 use Rattle.text.specs.Utf8.{rest}
 use Rattle.token.specs.Reads.{gotOf, pointOf, reachedOf, spanOf}
@@ -34,9 +37,6 @@ use Rattle.token.specs.declared.read.Read.{Read}
 use Rattle.token.specs.declared.read.Read.the-variants.{Got, Refused}
 use Rattle.token.specs.declared.read.Refusal.{Refusal}
 use Rattle.token.specs.declared.read.Token.{Token}
-use Rattle.tokens.proofs.Cover.{by-read}
-use Rattle.tokens.proofs.Steps.{next-end, refused-past, tokens-fin, tokens-halt, tokens-more, tokens-past, tokens-past-step, tokens-start}
-use Rattle.tokens.specs.Tokens.{Tokens, fin, halt, more, tokensAt}
 
 module _ (g : Reading) (s : List ℕ) (p : ℕ) where
   pub halt-inv : (r : Refusal) → halt r ≡ tokensAt (rulesOf g) s p → nextAt g s p ≡ Refused r
@@ -205,8 +205,8 @@ before-from g s (more k ts) p q e i u =
 
 -- with no place to part at, the lists are the same to the end
 whole-from : (g : Reading) (s : List ℕ) (ts : Tokens) (p q room n : ℕ) → ts ≡ tokensAt (rulesOf g) s p → onward p q (tokensAt (rulesOf (underFirst g)) s q) ≡ fromOf (underFirst g) s p → partless (walkAt g s p q) ≡ true
-    → (wordsOf ts room ≡ wordsOf (tokensAt (rulesOf (underFirst g)) s p) room) × (answerOf ts room n ≡ answerOf (tokensAt (rulesOf (underFirst g)) s p) room n)
-unfolding wordsOf answerOf
+    → (listedWords ts room ≡ listedWords (tokensAt (rulesOf (underFirst g)) s p) room) × (listAnswer ts room n ≡ listAnswer (tokensAt (rulesOf (underFirst g)) s p) room n)
+unfolding listedWords listAnswer
 whole-from g s fin p q room n i u h = rw (fin-both g s p (underFirst g) i) (refl, refl)
 whole-from g s (halt r) p q room n i u h =
     ⊎-elim (λ e. rw e (refl, refl)) (λ a. never (let z = a .parted in cc)) (at-halt g s p q u r i)
@@ -218,8 +218,8 @@ whole-from g s (more k ts) p q room n i u h =
     let z = t .end in
     let w = whole-from g s ts (k .span .end) p (room - 3) (n + 1) (t .rest) (t .stands) (sym (t .walks .1) ∙ h) in
     rw (t .list) (split (ltb room 3)
-    (λ e. rw (e, wordsOf, answerOf) (refl, (λ x. Stopped n (record { number = 3; span = spanOf (a x) (z x); reached = z x }))))
-    (λ e. rw (e, wordsOf, answerOf) ((λ x. b x ∷ (a x ∷ (z x ∷ w .0 x))), w .1))))
+    (λ e. rw (e, listedWords, listAnswer) (refl, (λ x. Stopped n (record { number = 3; span = spanOf (a x) (z x); reached = z x }))))
+    (λ e. rw (e, listedWords, listAnswer) ((λ x. b x ∷ (a x ∷ (z x ∷ w .0 x))), w .1))))
     (λ a. never (let z = a .parted in cc))
     (at-more g s p q u k ts i)
 
@@ -240,9 +240,7 @@ module _ (g : Reading) (s : List ℕ) where
           let b = by-test (underFirst g) s room Sound e in
           let w = whole-from g s (tokensAt (rulesOf g) s 0) 0 0 room 0 refl (stay-here (underFirst g) s 0) (sym (mark-parts (rest s 0) (walkAt g s 0 0) .1) ∙ h) in
           (a .0 ∙ w .1 ∙ sym (b .0), a .1 ∙ w .0 ∙ sym (b .1))
-      by-source TooLong e = let a = by-test g s room TooLong e in let b = by-test (underFirst g) s room TooLong e in (a .0 ∙ sym (b .0), a .1 ∙ sym (b .1))
-      by-source (IllFormed p) e = let a = by-test g s room (IllFormed p) e in let b = by-test (underFirst g) s room (IllFormed p) e in (a .0 ∙ sym (b .0), a .1 ∙ sym (b .1))
-      by-source (Misplaced p) e = let a = by-test g s room (Misplaced p) e in let b = by-test (underFirst g) s room (Misplaced p) e in (a .0 ∙ sym (b .0), a .1 ∙ sym (b .1))
+      by-source (Unsound r) e = let a = by-test g s room (Unsound r) e in let b = by-test (underFirst g) s room (Unsound r) e in (a .0 ∙ sym (b .0), a .1 ∙ sym (b .1))
 
 -- an answer without a refusal counts all that was found
 ends-count : (ts : Tokens) (n m : ℕ) → endsAs ts n ≡ Whole m → n ≡ m
@@ -272,6 +270,4 @@ nothing-found g s room h = by-source (sourceTest s) refl
         let c = found-count (foundOf g s) (tokensAt (rulesOf g) s 0) room 0 0 (sym (found-by-test g s room Sound e .0) ∙ h) in
         let z = none-found (foundOf g s) (omega arith) in
         in-step g s (rw z refl)
-    by-source TooLong e = never (let b = found-by-test g s room TooLong e .0 in cc)
-    by-source (IllFormed p) e = never (let b = found-by-test g s room (IllFormed p) e .0 in cc)
-    by-source (Misplaced p) e = never (let b = found-by-test g s room (Misplaced p) e .0 in cc)
+    by-source (Unsound r) e = never (let b = found-by-test g s room (Unsound r) e .0 in cc)

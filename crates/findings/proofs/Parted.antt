@@ -11,6 +11,7 @@ use borrow.Author.Tests.{eq-eqb, eqb-true, le-leb, ne-eqb}
 use Rattle.choice.specs.Rule.{behindOne, firstOf, otherOf, tokenWith}
 use Rattle.families.proofs.Pairs.{first-both}
 use Rattle.families.proofs.Sooner.{bang-same, behind-same}
+use Rattle.families.proofs.Switch.{Templated, body-templated}
 use Rattle.findings.specs.Findings.{underFirst}
 use Rattle.findings.specs.InStep.{partsOf}
 use Rattle.laws.proofs.Cases.{either-false, never, split, within-low}
@@ -23,13 +24,12 @@ use Rattle.readers.specs.declared.reading.Comments.{Comments}
 use Rattle.readers.specs.declared.reading.Comments.the-variants.{Crate, First}
 use Rattle.readers.specs.declared.reading.Reading.{Reading}
 use Rattle.templates.proofs.Landing.{deepOf, with-deep}
-use Rattle.templates.specs.Body.{bodyOf, templateOf, tokenOf}
+use Rattle.templates.specs.Body.{templateBody, templateOf, tokenOf}
 use Rattle.text.specs.Utf8.{rest, width}
 use Rattle.token.specs.declared.kind.Kind.the-variants.{Comment}
 use Rattle.token.specs.declared.read.Read.{Read}
 use Rattle.token.specs.declared.read.Read.the-variants.{Got, Refused}
 use Rattle.token.specs.declared.read.Token.{Token}
-use Rattle.tokens.proofs.Switch.{Templated, body-templated}
 
 abbrev pub Parted : Read → Type 0
 Parted r = partsOf r ≡ true
@@ -44,7 +44,7 @@ comment-parted k a cs p = split (commentEnd width k cs p .closed) (λ e. rw e re
 
 behind-parted : (R : Rules) (k a : ℕ) (cs : List ℕ) (p : ℕ) → Parted (behindOne R (commentOf width k a) cs p)
 behind-parted R k a [] p = comment-parted k a [] p
-behind-parted R k a (v ∷ cs) p = comment-parted k a cs (p + R .wide v)
+behind-parted R k a (v ∷ cs) p = comment-parted k a cs (p + R .stride v)
 
 templated : (r : Read) → Templated r → Parted r
 templated (Got k) h = rw h refl
@@ -53,7 +53,7 @@ templated (Refused r) h = eq-eqb (r .number) 19 h
 deep-parted : (d a : ℕ) (cs : List ℕ) (p : ℕ) → Parted (deepOf (rulesOf rune) d a cs p)
 unfolding deepOf templateOf
 deep-parted zero a cs p = refl
-deep-parted (suc d) a cs p = templated (bodyOf (rulesOf rune) (tokenOf (rulesOf rune) d) a 0 cs p 0) (body-templated (rulesOf rune) (tokenOf (rulesOf rune) d) a 0 cs p 0)
+deep-parted (suc d) a cs p = templated (templateBody (rulesOf rune) (tokenOf (rulesOf rune) d) a 0 cs p 0) (body-templated (rulesOf rune) (tokenOf (rulesOf rune) d) a 0 cs p 0)
 
 first-kept : (d v : ℕ) (cs : List ℕ) (p : ℕ) → let F = rulesOf firstClose in let N = rulesOf rune in
     Kept (firstOf N (deepOf N d) v p cs (p + width v)) (firstOf F (deepOf F d) v p cs (p + width v))

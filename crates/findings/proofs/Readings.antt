@@ -7,7 +7,10 @@ use native.Mathlib.Omega.{arith}
 use lib.Dec.{eqb}
 use lib.ListN.{length}
 use borrow.Author.Tests.{eq-eqb, le-leb, le-ltb, lt-leb, lt-ltb, ne-eqb}
-use Rattle.findings.specs.Findings.{across, alike, alone, asCode, findingOf, fromOf, headOf, holds, holdsAt, isBlank, isComment, onward, plainFinding, runsOn, runsOnCode, underFirst}
+use Rattle.families.proofs.Cover.{by-read}
+use Rattle.families.proofs.Steps.{next-end, tokens-fin, tokens-halt, tokens-more, tokens-past-step}
+use Rattle.families.specs.Tokens.{Tokens, fin, halt, more, tokensAt}
+use Rattle.findings.specs.Findings.{across, alike, alone, asCode, findingOf, fromOf, headOf, holds, holdsAt, isComment, isWhiteOrComment, onward, plainFinding, runsOn, runsOnCode, underFirst}
 use Rattle.findings.specs.declared.store.Finding.{Finding}
 use Rattle.findings.specs.declared.store.Spotted.{Spotted}
 use Rattle.findings.specs.declared.store.Spotted.the-variants.{Nothing, One}
@@ -23,9 +26,6 @@ use Rattle.token.specs.declared.read.Read.{Read}
 use Rattle.token.specs.declared.read.Read.the-variants.{Got, Refused}
 use Rattle.token.specs.declared.read.Refusal.{Refusal}
 use Rattle.token.specs.declared.read.Token.{Token}
-use Rattle.tokens.proofs.Cover.{by-read}
-use Rattle.tokens.proofs.Steps.{next-end, tokens-fin, tokens-halt, tokens-more, tokens-past-step}
-use Rattle.tokens.specs.Tokens.{Tokens, fin, halt, more, tokensAt}
 
 -- what is read at a place is the head of the list from there on
 pub head-next : (g : Reading) (s : List ℕ) (p : ℕ) → headOf p (tokensAt (rulesOf g) s p) ≡ nextAt g s p
@@ -59,11 +59,11 @@ module _ (g : Reading) (s : List ℕ) (p e : ℕ) where
       holds-end z = rw (tokens-fin g s p r er k i z, holds) refl
 
       module _ (z : k .span .end ≡ p → ⊥) where
-        pub holds-full : isBlank k ≡ false → true ≡ holdsAt g s p e
+        pub holds-full : isWhiteOrComment k ≡ false → true ≡ holdsAt g s p e
         unfolding holdsAt holds
         holds-full b = rw (tokens-more g s p r er k i z, holds) (rw (lt-ltb p e l, b) refl)
 
-        pub holds-on : isBlank k ≡ true → holdsAt g s (k .span .end) e ≡ holdsAt g s p e
+        pub holds-on : isWhiteOrComment k ≡ true → holdsAt g s (k .span .end) e ≡ holdsAt g s p e
         unfolding holdsAt holds
         holds-on b = rw (tokens-more g s p r er k i z, holds) (rw (lt-ltb p e l, b) refl)
 
@@ -131,11 +131,11 @@ module _ (p q : ℕ) (a b : Read) where
       unfolding asCode
       code-plain c = rw (e, i, asCode) (rw c refl)
 
-      pub code-blank : isComment j ≡ true → isBlank k ≡ true → Nothing ≡ asCode p a q b
+      pub code-blank : isComment j ≡ true → isWhiteOrComment k ≡ true → Nothing ≡ asCode p a q b
       unfolding asCode
       code-blank c d = rw (e, i, asCode) (rw (c, d) refl)
 
-      pub code-found : isComment j ≡ true → isBlank k ≡ false → One (findingOf 62 p (k .span .end) q (j .span .end)) ≡ asCode p a q b
+      pub code-found : isComment j ≡ true → isWhiteOrComment k ≡ false → One (findingOf 62 p (k .span .end) q (j .span .end)) ≡ asCode p a q b
       unfolding asCode
       code-found c d = rw (e, i, asCode) (rw (c, d) refl)
 

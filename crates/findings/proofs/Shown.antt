@@ -4,6 +4,7 @@ use mathlib.Core.Path.{_≡_, refl}
 use mathlib.Core.List.{List, [], _∷_, map}
 use Rattle.choice.specs.Rule.{firstOf, leftOf, otherOf, tokenWith}
 use Rattle.classes.specs.Classes.{whiteSpace, xidContinue, xidStart}
+use Rattle.families.specs.Tokens.{tokensAt, tokensOf}
 use Rattle.findings.specs.Findings.{across, alone, asCode, foundOf, holds, holdsAt, onward, runsOn, runsOnCode, walk, walkAt, wordsFound}
 use Rattle.laws.specs.Tables.{inRanges}
 use Rattle.lexer.specs.Next.{nextOf}
@@ -14,9 +15,8 @@ use Rattle.operators.specs.Operators.{findOne, findThree, findTwo, lookOne, loo
 use Rattle.readers.specs.Readers.{commentEnd, commentOf, commentStep, lineOf, run, whiteOf, wordOf}
 use Rattle.readers.specs.Rules.{rune}
 use Rattle.readers.specs.Scan.{scan}
-use Rattle.templates.specs.Body.{bodyOf, templateOf, tokenOf, turnOf}
+use Rattle.templates.specs.Body.{templateBody, templateOf, templateTurn, tokenOf}
 use Rattle.text.specs.Utf8.{decode, first, from, leadOf, rest, secondFits, threeOf, width}
-use Rattle.tokens.specs.Tokens.{tokensAt, tokensOf}
 
 -- a source's bytes, and its findings as rune reads it, five words each
 unfoldable pub finds : List (List ℕ × List ℕ)
@@ -45,5 +45,5 @@ finds =
     ∷ []
 
 pub finds-shown : map (λ (e : List ℕ × List ℕ). wordsFound (foundOf rune (e .0)) 100) finds ≡ map (λ (e : List ℕ × List ℕ). e .1) finds
-unfolding finds foundOf wordsFound walkAt walk onward across asCode alone runsOn runsOnCode holdsAt holds openMark closeMark isShut numberOf tokensAt tokensOf nextOf tokenOf tokenWith firstOf otherOf leftOf templateOf bodyOf turnOf whiteOf run scan lineOf commentOf commentEnd commentStep wordOf operatorOf findOne findTwo findThree lookOne lookTwo lookThree ones twos threes inRanges whiteSpace xidStart xidContinue rest decode from first leadOf threeOf secondFits width
+unfolding finds foundOf wordsFound walkAt walk onward across asCode alone runsOn runsOnCode holdsAt holds openMark closeMark isShut numberOf tokensAt tokensOf nextOf tokenOf tokenWith firstOf otherOf leftOf templateOf templateBody templateTurn whiteOf run scan lineOf commentOf commentEnd commentStep wordOf operatorOf findOne findTwo findThree lookOne lookTwo lookThree ones twos threes inRanges whiteSpace xidStart xidContinue rest decode from first leadOf threeOf secondFits width
 finds-shown = refl

@@ -8,7 +8,7 @@ use lib.Dec.{ltb}
 use lib.Seq.{length-sets, sets}
 use lib.ListN.{length, set}
 use borrow.Author.Tests.{le-ltb, lt-ltb, ltb-false}
-use Rattle.findings.specs.Findings.{answerFound, listed, noRoomFor, recordOf, wordsFound}
+use Rattle.findings.specs.Findings.{answerFound, findingWords, listed, noRoomFor, wordsFound}
 use Rattle.findings.specs.Notes.{notedOf}
 use Rattle.findings.specs.declared.store.Finding.{Finding}
 use Rattle.findings.specs.declared.store.Noted.{Noted}
@@ -42,7 +42,7 @@ module _ (out : List ℕ) (n count : ℕ) (x : Spotted) where
     unfolding wordsFound notedOf
     note-full l i h = rw (e, i, lt-ltb (length out - n) 5 h, wordsFound, notedOf) (refl, refl)
 
-    pub note-went : (o : List ℕ) → o ≡ sets out n (recordOf f []) → 5 ≤ length out - n → Note (Went (n + 5) (count + 1)) o
+    pub note-went : (o : List ℕ) → o ≡ sets out n (findingWords f []) → 5 ≤ length out - n → Note (Went (n + 5) (count + 1)) o
     unfolding wordsFound notedOf
     note-went o i h = rw (e, i, le-ltb (length out - n) 5 h, wordsFound, notedOf) (refl, refl)
 
@@ -66,19 +66,19 @@ module _ (all : List Finding) (close : ℕ → Listed) (out₀ : List ℕ) (n₀
     unfolding answerFound wordsFound
     left-done fs h e = let k = (rw e at h) in (k .answers, k .stores)
 
-    one-more : (f : Finding) (fs : List Finding) → Left all close out₀ n₀ c₀ (f ∷ fs) out n count → ltb (length out - n) 5 ≡ false → Left all close out₀ n₀ c₀ fs (sets out n (recordOf f [])) (n + 5) (count + 1)
+    one-more : (f : Finding) (fs : List Finding) → Left all close out₀ n₀ c₀ (f ∷ fs) out n count → ltb (length out - n) 5 ≡ false → Left all close out₀ n₀ c₀ fs (sets out n (findingWords f [])) (n + 5) (count + 1)
     unfolding answerFound wordsFound
     one-more f fs h t =
         let l = ltb-false (length out - n) 5 t in
-        let len = length-sets out n (recordOf f []) in
+        let len = length-sets out n (findingWords f []) in
         let i = h .in-store in
         let c = h .few in
-        let left : length (sets out n (recordOf f [])) - (n + 5) ≡ length out - n - 5 = omega arith in
-        let words : wordsFound (f ∷ fs) (length out - n) ≡ recordOf f (wordsFound fs (length out - n - 5)) = rw (t, wordsFound) refl in
+        let left : length (sets out n (findingWords f [])) - (n + 5) ≡ length out - n - 5 = omega arith in
+        let words : wordsFound (f ∷ fs) (length out - n) ≡ findingWords f (wordsFound fs (length out - n - 5)) = rw (t, wordsFound) refl in
         record {
           answers = ap (λ (m : ℕ). answerFound fs close m (count + 1)) left ∙ sym (rw (t, answerFound) refl) ∙ h .answers;
           stores =
-              ap (λ (m : ℕ). sets (sets out n (recordOf f [])) (n + 5) (wordsFound fs m)) left ∙ sets-append out (recordOf f []) (wordsFound fs (length out - n - 5)) n (n + 5) refl
+              ap (λ (m : ℕ). sets (sets out n (findingWords f [])) (n + 5) (wordsFound fs m)) left ∙ sets-append out (findingWords f []) (wordsFound fs (length out - n - 5)) n (n + 5) refl
               ∙ ap (sets out n) (sym words) ∙ h .stores;
           in-store = omega arith;
           few = omega arith;
@@ -100,7 +100,7 @@ module _ (all : List Finding) (close : ℕ → Listed) (out₀ : List ℕ) (n₀
           let z : Went m d ≡ Went (n + 5) (count + 1) = sym e ∙ w .0 ∙ rw (t, notedOf) refl in
           let em : m ≡ n + 5 = cc in
           let ed : d ≡ count + 1 = cc in
-          let eo : o ≡ sets out n (recordOf f []) = w .1 ∙ rw (t, wordsFound) refl in
+          let eo : o ≡ sets out n (findingWords f []) = w .1 ∙ rw (t, wordsFound) refl in
           rw (em, ed, eo) (one-more f fs h t))
 
       pub left-full : (x : Spotted) → Left all close out₀ n₀ c₀ (listed x ++ fs) out n count → Note out n count x r o → (l : Listed) → r ≡ Full l → Done l o

@@ -7,9 +7,13 @@ use native.Mathlib.Omega.{arith}
 use lib.Dec.{leb, eqb}
 use lib.Seq.{sets}
 use lib.ListN.{length}
+use Rattle.families.proofs.Cover.{by-read}
+use Rattle.families.proofs.Starred.{reads}
+use Rattle.families.proofs.Steps.{reached-within, refused-past, tokens-fin, tokens-halt, tokens-more, tokens-past, tokens-room}
+use Rattle.families.specs.Tokens.{tokensAt}
 use Rattle.findings.proofs.Readings.{head-next}
 use Rattle.findings.proofs.Stores.{Done, Left, Note, left-done, left-first, left-full, left-went}
-use Rattle.findings.specs.Findings.{across, alike, alone, answerFound, asCode, endsAs, findingsOf, foundOf, fromOf, headOf, isBlank, isComment, listed, markOf, onward, recordsOf, runsOn, underFirst, walk, walkAt, wordsFound}
+use Rattle.findings.specs.Findings.{across, alike, alone, answerFound, asCode, endsAs, findingsOf, foundOf, fromOf, headOf, isComment, isWhiteOrComment, listed, markOf, onward, runsOn, storedFindings, underFirst, walk, walkAt, wordsFound}
 use Rattle.findings.specs.Notes.{AllSmall, Small}
 use Rattle.findings.specs.declared.store.Finding.{Finding}
 use Rattle.findings.specs.declared.store.Noted.{Noted}
@@ -24,19 +28,14 @@ use Rattle.marks.specs.Marks.{closeMark}
 use Rattle.numbers.specs.Kinds.{numberOf}
 use Rattle.readers.specs.Rules.{rulesOf}
 use Rattle.readers.specs.declared.reading.Reading.{Reading}
-use Rattle.sound.specs.Source.{sourceTest}
-use Rattle.sound.specs.declared.Tested.{Tested}
-use Rattle.sound.specs.declared.Tested.the-variants.{IllFormed, Misplaced, Sound, TooLong}
+use Rattle.source_test.specs.Source.{afterTest, sourceTest}
+use Rattle.source_test.specs.declared.Tested.{Tested}
 use Rattle.text.specs.Utf8.{rest}
-use Rattle.token.specs.Reads.{pointRefusal, reachedOf}
+use Rattle.token.specs.Reads.{reachedOf}
 use Rattle.token.specs.declared.read.Read.{Read}
 use Rattle.token.specs.declared.read.Read.the-variants.{Got, Refused}
 use Rattle.token.specs.declared.read.Refusal.{Refusal}
 use Rattle.token.specs.declared.read.Token.{Token}
-use Rattle.tokens.proofs.Cover.{by-read}
-use Rattle.tokens.proofs.Starred.{reads}
-use Rattle.tokens.proofs.Steps.{reached-within, refused-past, tokens-fin, tokens-halt, tokens-more, tokens-past, tokens-room}
-use Rattle.tokens.specs.Tokens.{tokensAt}
 
 -- places are small where the source is
 module _ (p x q y : ℕ) (hp : p ≤ 65536) (hx : x ≤ 65536) (hq : q ≤ 65536) (hy : y ≤ 65536) where
@@ -49,7 +48,7 @@ module _ (p x q y : ℕ) (hp : p ≤ 65536) (hx : x ≤ 65536) (hq : q ≤ 65536
   code-small (Refused r) b ex ey = tt
   code-small (Got k) (Refused r) ex ey = tt
   code-small (Got k) (Got j) ex ey =
-      split (both (isComment j) (not (isBlank k))) (λ e. rw e (hp, omega arith, hq, omega arith)) (λ e. rw e tt)
+      split (both (isComment j) (not (isWhiteOrComment k))) (λ e. rw e (hp, omega arith, hq, omega arith)) (λ e. rw e tt)
 
   pub across-small : (g : Reading) (s : List ℕ) (a b : Read) → reachedOf a ≡ x → reachedOf b ≡ y → AllSmall (across g s p a q b)
   unfolding across
@@ -205,7 +204,7 @@ module _ (g : Reading) (s out : List ℕ) where
 
 -- the tests before, and the whole
 pub found-by-test : (g : Reading) (s : List ℕ) (room : ℕ) (t : Tested) → t ≡ sourceTest s
-    → (findingsOf g s room ≡ elim t [ Sound ↦ answerFound (foundOf g s) (endsAs (tokensAt (rulesOf g) s 0)) room 0 | TooLong ↦ Stopped 0 (pointRefusal 1 0) | IllFormed p ↦ Stopped 0 (pointRefusal 2 p) | Misplaced p ↦ Stopped 0 (pointRefusal 4 p) ])
-    × (recordsOf g s room ≡ elim t [ Sound ↦ wordsFound (foundOf g s) room | TooLong ↦ [] | IllFormed p ↦ [] | Misplaced p ↦ [] ])
-unfolding findingsOf recordsOf
-found-by-test g s room t e = (rw (← e, findingsOf), rw (← e, recordsOf))
+    → (findingsOf g s room ≡ afterTest t (answerFound (foundOf g s) (endsAs (tokensAt (rulesOf g) s 0)) room 0) (Stopped 0))
+    × (storedFindings g s room ≡ afterTest t (wordsFound (foundOf g s) room) (λ r. []))
+unfolding findingsOf storedFindings
+found-by-test g s room t e = (rw (← e, findingsOf), rw (← e, storedFindings))

@@ -4,6 +4,7 @@ use mathlib.Core.List.{List, [], _∷_, _++_}
 use mathlib.Core.Bool.{Bool, true, false, not}
 use lib.Dec.{leb, ltb, eqb}
 use lib.ListN.{length}
+use Rattle.families.specs.Tokens.{Tokens, fin, halt, more, tokensAt}
 use Rattle.findings.specs.declared.store.Finding.{Finding}
 use Rattle.findings.specs.declared.store.Spotted.{Spotted}
 use Rattle.findings.specs.declared.store.Spotted.the-variants.{Nothing, One}
@@ -15,24 +16,22 @@ use Rattle.numbers.specs.Kinds.{numberOf}
 use Rattle.readers.specs.Rules.{rulesOf}
 use Rattle.readers.specs.declared.reading.Comments.the-variants.{First}
 use Rattle.readers.specs.declared.reading.Reading.{Reading}
-use Rattle.sound.specs.Source.{sourceTest}
-use Rattle.sound.specs.declared.Tested.the-variants.{IllFormed, Misplaced, Sound, TooLong}
+use Rattle.source_test.specs.Source.{afterTest, sourceTest}
 use Rattle.text.specs.Utf8.{from, rest}
-use Rattle.token.specs.Reads.{gotOf, pointRefusal, reachedOf, spanOf}
+use Rattle.token.specs.Reads.{gotOf, reachedOf, spanOf}
 use Rattle.token.specs.declared.kind.Kind.the-variants.{Eof}
 use Rattle.token.specs.declared.read.Read.{Read}
 use Rattle.token.specs.declared.read.Read.the-variants.{Got, Refused}
 use Rattle.token.specs.declared.read.Refusal.{Refusal}
 use Rattle.token.specs.declared.read.Token.{Token}
-use Rattle.tokens.specs.Tokens.{Tokens, fin, halt, more, tokensAt}
 
 -- the same reading, but that the first `*/` ends a comment
 abbrev pub underFirst : Reading → Reading
 underFirst g = record { comments = First }
 
 -- white space and comments are the kinds 1 to 4, comments those from 2 on
-abbrev pub isBlank : Token → Bool
-isBlank k = leb (numberOf (k .kind)) 4
+abbrev pub isWhiteOrComment : Token → Bool
+isWhiteOrComment k = leb (numberOf (k .kind)) 4
 
 abbrev pub isComment : Token → Bool
 isComment k = within 2 4 (numberOf (k .kind))
@@ -57,7 +56,7 @@ alike (Refused r) (Refused q) =
 unfoldable pub holds : ℕ → ℕ → Tokens → Bool
 holds p e fin = false
 holds p e (halt r) = ltb p e
-holds p e (more k ts) = both (ltb p e) (either (not (isBlank k)) (holds (k .span .end) e ts))
+holds p e (more k ts) = both (ltb p e) (either (not (isWhiteOrComment k)) (holds (k .span .end) e ts))
 
 unfoldable pub holdsAt : Reading → List ℕ → ℕ → ℕ → Bool
 holdsAt g s p e = holds p e (tokensAt (rulesOf g) s p)
@@ -75,7 +74,7 @@ runsOn g s p x y =
 
 -- 62, read-as-code: a token in force, neither white space nor comment, that begins inside a comment under First; the stretch is that comment
 unfoldable pub asCode : ℕ → Read → ℕ → Read → Spotted
-asCode p (Got k) q (Got j) = pick (both (isComment j) (not (isBlank k))) (One (findingOf 62 p (k .span .end) q (j .span .end))) Nothing
+asCode p (Got k) q (Got j) = pick (both (isComment j) (not (isWhiteOrComment k))) (One (findingOf 62 p (k .span .end) q (j .span .end))) Nothing
 asCode p (Got k) q (Refused r) = Nothing
 asCode p (Refused r) q b = Nothing
 
@@ -145,8 +144,8 @@ abbrev pub noRoomFor : Finding → Refusal
 noRoomFor f = record { number = 3; span = spanOf (f .start) (f .end); reached = f .end }
 
 -- five words a finding
-abbrev pub recordOf : Finding → List ℕ → List ℕ
-recordOf f ws = f .code ∷ (f .start ∷ (f .end ∷ (f .from ∷ (f .to ∷ ws))))
+abbrev pub findingWords : Finding → List ℕ → List ℕ
+findingWords f ws = f .code ∷ (f .start ∷ (f .end ∷ (f .from ∷ (f .to ∷ ws))))
 
 -- .. of as many as there is room for
 unfoldable pub wordsFound : List Finding → ℕ → List ℕ
@@ -154,7 +153,7 @@ wordsFound [] room = []
 wordsFound (f ∷ fs) room =
     elim (ltb room 5) [
       | true ↦ []
-      | false ↦ recordOf f (wordsFound fs (room - 5))
+      | false ↦ findingWords f (wordsFound fs (room - 5))
     ]
 
 -- the answer, where n findings were stored before and the list in force ends so
@@ -164,19 +163,7 @@ answerFound (f ∷ fs) close room n = elim (ltb room 5) [ true ↦ Stopped n (no
 
 -- 1 and 2 come first, and store nothing
 unfoldable pub findingsOf : Reading → List ℕ → ℕ → Listed
-findingsOf g s room =
-    elim (sourceTest s) [
-      | Sound ↦ answerFound (foundOf g s) (endsAs (tokensAt (rulesOf g) s 0)) room 0
-      | TooLong ↦ Stopped 0 (pointRefusal 1 0)
-      | IllFormed p ↦ Stopped 0 (pointRefusal 2 p)
-      | Misplaced p ↦ Stopped 0 (pointRefusal 4 p)
-    ]
+findingsOf g s room = afterTest (sourceTest s) (answerFound (foundOf g s) (endsAs (tokensAt (rulesOf g) s 0)) room 0) (Stopped 0)
 
-unfoldable pub recordsOf : Reading → List ℕ → ℕ → List ℕ
-recordsOf g s room =
-    elim (sourceTest s) [
-      | Sound ↦ wordsFound (foundOf g s) room
-      | TooLong ↦ []
-      | IllFormed p ↦ []
-      | Misplaced p ↦ []
-    ]
+unfoldable pub storedFindings : Reading → List ℕ → ℕ → List ℕ
+storedFindings g s room = afterTest (sourceTest s) (wordsFound (foundOf g s) room) (λ r. [])

@@ -3,12 +3,13 @@ use Prim.Native.Nat.{ℕ}
 use mathlib.Core.List.{List, [], _∷_}
 use mathlib.Core.Bool.{Bool, true, not}
 use lib.Dec.{ltb, eqb}
+use Rattle.families.specs.Tokens.{Tokens, fin, halt, more}
 use Rattle.findings.specs.declared.store.Finding.{Finding}
 use Rattle.laws.specs.Bools.{both, either, pick, within}
 use Rattle.numbers.specs.Kinds.{numberOf}
+use Rattle.rows.specs.Rows.{rowWords}
 use Rattle.token.specs.declared.read.Read.{Read}
 use Rattle.token.specs.declared.read.Read.the-variants.{Got, Refused}
-use Rattle.tokens.specs.Tokens.{Tokens, fin, halt, more}
 
 -- a finding at which the two readings part
 abbrev pub parts : Finding → Bool
@@ -27,7 +28,7 @@ partless (f ∷ fs) = both (not (parts f)) (partless fs)
 unfoldable pub wordsBefore : ℕ → Tokens → List ℕ
 wordsBefore e fin = []
 wordsBefore e (halt r) = []
-wordsBefore e (more k ts) = pick (ltb (k .span .start) e) (numberOf (k .kind) ∷ (k .span .start ∷ (k .span .end ∷ wordsBefore e ts))) []
+wordsBefore e (more k ts) = pick (ltb (k .span .start) e) (rowWords (numberOf (k .kind)) (k .span .start) (k .span .end) (wordsBefore e ts)) []
 
 -- what may be read otherwise under First: a comment of kind 3 or 4, a template, and 19, to which only templates lead
 abbrev pub partsOf : Read → Bool

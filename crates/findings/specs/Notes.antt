@@ -1,4 +1,4 @@
--- One finding, or none, into the store: what is stored then, or the answer of a call whose store is full.
+-- One finding, or none, into the store, as the code of the walk does it. It serves the proofs; what is stored stands in Findings.
 use Prim.Native.Nat.{ℕ, _+_, _-_, _≤_}
 use mathlib.Core.Bool.{true, false}
 use lib.Dec.{ltb}

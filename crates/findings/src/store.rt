@@ -8,7 +8,7 @@ ghost use mathlib.Core.Path.{_≡_};
 ghost use mathlib.Core.List.{[]};
 ghost use lib.Seq.{sets};
 ghost use lib.ListN.{length};
-ghost use Rattle.findings.specs.Findings.{listed, noRoomFor, recordOf, wordsFound};
+ghost use Rattle.findings.specs.Findings.{findingWords, listed, noRoomFor, wordsFound};
 ghost use Rattle.findings.specs.Notes.{AllSmall, Small, notedOf};
 ghost use Rattle.listing.specs.declared.Listed.the-variants.{Stopped};
 
@@ -34,7 +34,7 @@ pub enum Noted {
 
 fn put(store: &mut [u32], n: usize, f: Finding)
     requires { ⌜ (n + 5 ≤ length (now store)) × Small f ⌝ }
-    ensures { λ r. ⌜ now (store .exit) ≡ sets (now (store .entry)) n (recordOf f []) ⌝ }
+    ensures { λ r. ⌜ now (store .exit) ≡ sets (now (store .entry)) n (findingWords f []) ⌝ }
 {
     store[n] = f.code;
     store[n + 1] = f.start as u32;

@@ -12,31 +12,27 @@ use crate::store::note;
 use listing::Listed;
 use readers::Comments;
 use readers::Reading;
-use sound::Tested;
+use source_test::Tested;
 use text::Scalar;
 use token::Kind;
 use token::Read;
 use token::Refusal;
 use token::Span;
 use token::Token;
-use token::refusal::ILL_FORMED;
-use token::refusal::NO_PLACE;
 use token::refusal::TOO_DEEP;
-use token::refusal::TOO_LONG;
 ghost use Prim.Native.Nat.{_-_, _≤_};
 ghost use mathlib.Core.Path.{_≡_};
 ghost use lib.Seq.{sets};
 ghost use lib.ListN.{length};
-ghost use Rattle.findings.specs.Findings.{across, alike, alone, answerFound, asCode, endsAs, findingsOf, foundOf, fromOf, holdsAt, isBlank, isComment, markOf, onward, plainFinding, recordsOf, runsOn, runsOnCode, underFirst, walkAt, wordsFound};
+ghost use Rattle.families.specs.Tokens.{tokensAt};
+ghost use Rattle.findings.specs.Findings.{across, alike, alone, answerFound, asCode, endsAs, findingsOf, foundOf, fromOf, holdsAt, isComment, isWhiteOrComment, markOf, onward, plainFinding, runsOn, runsOnCode, storedFindings, underFirst, walkAt, wordsFound};
 ghost use Rattle.findings.specs.InStep.{partsOf};
 ghost use Rattle.findings.specs.declared.store.Spotted.the-variants.{One};
 ghost use Rattle.lexer.specs.Next.{nextAt};
-ghost use Rattle.listing.specs.declared.Listed.the-variants.{Stopped};
 ghost use Rattle.readers.specs.Rules.{rulesOf};
 ghost use Rattle.text.specs.Utf8.{from, rest};
-ghost use Rattle.token.specs.Reads.{pointRefusal, reachedOf};
+ghost use Rattle.token.specs.Reads.{reachedOf};
 ghost use Rattle.token.specs.declared.read.Read.the-variants.{Got, Refused};
-ghost use Rattle.tokens.specs.Tokens.{tokensAt};
 
 // A place, and what is read there.
 struct Under {
@@ -53,7 +49,7 @@ fn under_first(reading: Reading) -> Reading
 }
 
 fn is_blank(token: Token) -> bool
-    ensures { λ r. ⌜ r ≡ isBlank token ⌝ }
+    ensures { λ r. ⌜ r ≡ isWhiteOrComment token ⌝ }
 {
     let kind = token.kind;
     numbers::number_of(kind) <= 4
@@ -384,27 +380,12 @@ fn find_all(s: &[u8], reading: Reading, store: &mut [u32]) -> Listed
     }
 }
 
-fn refused_at(number: u32, at: usize) -> Listed
-    ensures { λ r. ⌜ r ≡ Stopped 0 (pointRefusal number at) ⌝ }
-{
-    Listed::Stopped {
-        count: 0,
-        refusal: Refusal {
-            number,
-            span: Span { start: at, end: at },
-            reached: at,
-        },
-    }
-}
-
 pub fn findings(s: &[u8], reading: Reading, store: &mut [u32]) -> Listed
     ensures { λ r. ⌜ (r ≡ findingsOf reading (now (s .entry)) (length (now (store .entry))))
-        × (now (store .exit) ≡ sets (now (store .entry)) 0 (recordsOf reading (now (s .entry)) (length (now (store .entry))))) ⌝ }
+        × (now (store .exit) ≡ sets (now (store .entry)) 0 (storedFindings reading (now (s .entry)) (length (now (store .entry))))) ⌝ }
 {
-    match sound::test_source(s) {
+    match source_test::test_source(s) {
         Tested::Sound => find_all(s, reading, store),
-        Tested::TooLong => refused_at(TOO_LONG, 0),
-        Tested::IllFormed { at } => refused_at(ILL_FORMED, at),
-        Tested::Misplaced { at } => refused_at(NO_PLACE, at),
+        Tested::Unsound { refusal } => Listed::Stopped { count: 0, refusal },
     }
 }

@@ -7,11 +7,11 @@ use native.Mathlib.Omega.{arith}
 use lib.Dec.{leb, ltb, eqb}
 use lib.ListN.{length}
 use borrow.Author.Tests.{eq-eqb, eqb-true, leb-true, ltb-false, ne-eqb}
-use Rattle.digits.specs.Digits.{hexValue, isHexDigit}
+use Rattle.classes.specs.Digits.{hexValue, isHexDigit}
 use Rattle.encoding.proofs.Rows.{by-row, encode-length, encode-none, scalar-low}
 use Rattle.encoding.specs.Encode.{encodeOf, isScalar}
 use Rattle.escapes.proofs.Escapes.{hex-small}
-use Rattle.escapes.specs.Escapes.{byteEscape, byteTurn, charEscape, charTurn, closeOf, digitsOf, hexOf, hexSecond, lineEnd, lowOnly, sharedOf, shiftIn, templateOf, unicodeOf}
+use Rattle.escapes.specs.Escapes.{byteEscape, byteTurn, charEscape, charTurn, closeOf, digitsOf, hexOf, hexSecond, lineEnd, lowOnly, onlyInTemplate, sharedOf, shiftIn, unicodeOf}
 use Rattle.escapes.specs.declared.Escape.{Escape}
 use Rattle.escapes.specs.declared.Escape.the-variants.{Bad, Item, Skipped}
 use Rattle.items.proofs.Lands.{lands-le, low-lands, pick-by, pick-of, placeOf, shared-place}
@@ -141,7 +141,7 @@ module _ (p q : ℕ) (l : p < q) where
   line-char true cs = tt
   line-char false cs = tt
 
-  template-char : (m : Bool) (v : ℕ) → v ≤ 0x7f → CharItem p (templateOf m v q)
+  template-char : (m : Bool) (v : ℕ) → v ≤ 0x7f → CharItem p (onlyInTemplate m v q)
   template-char true v h = low-char p (Item v q) (omega arith) h
   template-char false v h = tt
 

@@ -8,9 +8,9 @@ use native.Mathlib.Omega.{arith}
 use lib.Dec.{leb, ltb, eqb}
 use lib.ListN.{length}
 use Rattle.classes.specs.Classes.{isWhiteSpace}
-use Rattle.digits.specs.Digits.{hexValue, isHexDigit}
+use Rattle.classes.specs.Digits.{hexValue, isHexDigit}
 use Rattle.encoding.specs.Encode.{isScalar}
-use Rattle.escapes.specs.Escapes.{byteEscape, byteTurn, charEscape, charTurn, digitsOf, hexOf, hexSecond, lineEnd, lowOnly, sharedOf, shiftIn, skipOf, templateOf, unicodeOf}
+use Rattle.escapes.specs.Escapes.{byteEscape, byteTurn, charEscape, charTurn, digitsOf, hexOf, hexSecond, lineEnd, lowOnly, onlyInTemplate, sharedOf, shiftIn, skipWhite, unicodeOf}
 use Rattle.escapes.specs.declared.Escape.{Escape}
 use Rattle.escapes.specs.declared.Escape.the-variants.{Bad, Item, Skipped}
 use Rattle.items.specs.Items.{escapeOf, isBytes, isSingle, isTemplate, itemOf, plainOf}
@@ -56,11 +56,11 @@ pub pick-by : {A : Type 0} (P : A → Type 0) (b : Bool) (x y : A) → (b ≡ tr
 pick-by P true x y p q = p refl
 pick-by P false x y p q = q
 
-pub skip-lands : (cs : List ℕ) (p : ℕ) → Lands cs p (skipOf cs p)
-unfolding skipOf
+pub skip-lands : (cs : List ℕ) (p : ℕ) → Lands cs p (skipWhite cs p)
+unfolding skipWhite
 skip-lands [] p = refl
 skip-lands (v ∷ cs) p =
-    split (isWhiteSpace v) (λ h. rw (h, skipOf) (inr (skip-lands cs (p + width v)))) (λ h. rw (h, skipOf) (inl refl))
+    split (isWhiteSpace v) (λ h. rw (h, skipWhite) (inr (skip-lands cs (p + width v)))) (λ h. rw (h, skipWhite) (inl refl))
 
 pub shared-place : (v p : ℕ) → placeOf (sharedOf v p) ≡ p
 unfolding sharedOf
@@ -117,8 +117,8 @@ module _ (cs : List ℕ) (p : ℕ) where
   pub low-lands : Lands cs p (placeOf (lowOnly (hexOf cs p)))
   low-lands = subst (λ (r : ℕ). Lands cs p r) (sym (low-place (hexOf cs p))) (hex-lands cs p)
 
-  template-lands : (m : Bool) (v : ℕ) → Lands cs p (placeOf (templateOf m v p))
-  template-lands m v = at-place (templateOf m v p) (pick-of (λ (e : Escape). placeOf e ≡ p) m (Item v p) (Bad 20 p) refl refl)
+  template-lands : (m : Bool) (v : ℕ) → Lands cs p (placeOf (onlyInTemplate m v p))
+  template-lands m v = at-place (onlyInTemplate m v p) (pick-of (λ (e : Escape). placeOf e ≡ p) m (Item v p) (Bad 20 p) refl refl)
 
   byte-turn-lands : (l : Bool) (v : ℕ) → Lands cs p (placeOf (byteTurn l v cs p))
   unfolding byteTurn

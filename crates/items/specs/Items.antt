@@ -10,6 +10,7 @@ use Rattle.escapes.specs.declared.Escape.the-variants.{Bad, Item}
 use Rattle.items.specs.declared.Form.{Form}
 use Rattle.items.specs.declared.Form.the-variants.{Byte, ByteText, Char, Template, Text}
 use Rattle.laws.specs.Bools.{both, pick}
+use Rattle.text.specs.Characters.{backslash}
 
 abbrev pub isBytes : Form → Bool
 isBytes Text = false
@@ -42,7 +43,7 @@ escapeOf form cs p = pick (isBytes form) (byteEscape (not (isSingle form)) cs p)
 
 -- what the scalar v begins; the scalars cs after it stand at p
 unfoldable pub itemOf : Form → ℕ → List ℕ → ℕ → Escape
-itemOf form v cs p = pick (eqb v 0x5c) (escapeOf form cs p) (plainOf form v p)
+itemOf form v cs p = pick (eqb v backslash) (escapeOf form cs p) (plainOf form v p)
 
 -- scalars as UTF-8, bytes as they are
 unfoldable pub itemBytes : Form → ℕ → List ℕ

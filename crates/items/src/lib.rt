@@ -2,6 +2,7 @@
 use escapes::Escape;
 use escapes::parse_byte_escape;
 use escapes::parse_char_escape;
+use text::character::BACKSLASH;
 use token::refusal::NOT_ASCII;
 ghost use mathlib.Core.Path.{_≡_};
 ghost use Rattle.items.specs.Items.{isBytes, isSingle, isTemplate, itemOf};
@@ -57,7 +58,7 @@ pub fn item_at(s: &[u8], form: Form, v: u32, next: usize) -> Escape
     ensures { λ r. ⌜ r ≡ itemOf form v (rest (now (s .entry)) next) next ⌝ }
 {
     if is_bytes(form) {
-        if v == 0x5c {
+        if v == BACKSLASH {
             return parse_byte_escape(s, next, !is_single(form));
         }
         if 0x7f < v {
@@ -68,7 +69,7 @@ pub fn item_at(s: &[u8], form: Form, v: u32, next: usize) -> Escape
         }
         return Escape::Item { value: v, next };
     }
-    if v == 0x5c {
+    if v == BACKSLASH {
         return parse_char_escape(s, next, is_template(form), !is_single(form));
     }
     Escape::Item { value: v, next }

@@ -8,13 +8,12 @@ use lib.Dec.{eqb}
 use borrow.Author.Tests.{eq-eqb, eqb-true, ne-eqb}
 use Rattle.laws.proofs.Cases.{both-false, both-inv, never}
 use Rattle.laws.specs.Bools.{both}
-use Rattle.lexer.specs.Next.{closeSpan, isShebang, laterAt, nextAt, nextOf, readAt, shebangOf}
+use Rattle.lexer.specs.Next.{closeSpan, isShebang, nextAt, nextOf, pastStartAt, readAt, shebangOf}
 use Rattle.readers.specs.Readers.{inLine, lineOf, run}
 use Rattle.readers.specs.Rules.{rulesOf}
 use Rattle.readers.specs.declared.reading.Reading.{Reading}
-use Rattle.sound.specs.Source.{positionTest}
-use Rattle.sound.specs.declared.Tested.{Tested}
-use Rattle.sound.specs.declared.Tested.the-variants.{IllFormed, Misplaced, Sound, TooLong}
+use Rattle.source_test.specs.Source.{afterTest, positionTest}
+use Rattle.source_test.specs.declared.Tested.{Tested}
 use Rattle.text.proofs.Decode.{Step, rest-tail}
 use Rattle.text.proofs.Leads.{width-1}
 use Rattle.text.specs.Utf8.{rest, width}
@@ -68,17 +67,16 @@ next-shebang g s at z h = subst (λ (x : ℕ). gotOf Shebang 0 (run width inLine
         let two : 0 + width v + width w ≡ 2 = omega arith in
         sym (λ k. gotOf Shebang 0 (run width inLine (((e2 ∙ ap (rest s) two)) k) (two k)))
 
-pub later-token : (g : Reading) (s : List ℕ) (at : ℕ) → both (eqb at 0) (isShebang (rest s at)) ≡ false → laterAt g s at ≡ nextAt g s at
-unfolding laterAt nextAt nextOf
+pub later-token : (g : Reading) (s : List ℕ) (at : ℕ) → both (eqb at 0) (isShebang (rest s at)) ≡ false → pastStartAt g s at ≡ nextAt g s at
+unfolding pastStartAt nextAt nextOf
 later-token g s at h = rw h
 
-pub later-next : (g : Reading) (s : List ℕ) (at : ℕ) → (at ≡ 0 → ⊥) → laterAt g s at ≡ nextAt g s at
+pub later-next : (g : Reading) (s : List ℕ) (at : ℕ) → (at ≡ 0 → ⊥) → pastStartAt g s at ≡ nextAt g s at
 later-next g s at h = later-token g s at (ap (λ (b : Bool). both b (isShebang (rest s at))) (ne-eqb at 0 h))
 
 pub no-shebang : (s : List ℕ) (at : ℕ) → at ≡ 0 → isShebang (rest s 0) ≡ false → both (eqb at 0) (isShebang (rest s at)) ≡ false
 no-shebang s at z h = subst (λ (x : ℕ). both (eqb x 0) (isShebang (rest s x)) ≡ false) (sym z) h
 
-pub read-case : (g : Reading) (s : List ℕ) (at : ℕ) (q : Tested) → q ≡ positionTest s at
-    → readAt g s at ≡ elim q [ Sound ↦ nextAt g s at | TooLong ↦ refusedOf 1 0 0 0 | IllFormed p ↦ refusedOf 2 p p p | Misplaced p ↦ refusedOf 4 p p p ]
+pub read-case : (g : Reading) (s : List ℕ) (at : ℕ) (q : Tested) → q ≡ positionTest s at → readAt g s at ≡ afterTest q (nextAt g s at) Refused
 unfolding readAt
 read-case g s at q e = rw (← e, readAt)

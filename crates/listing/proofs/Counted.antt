@@ -6,44 +6,44 @@ use native.Mathlib.Omega.{arith}
 use lib.Dec.{ltb}
 use lib.ListN.{length}
 use borrow.Author.Tests.{le-ltb}
+use Rattle.families.specs.Tokens.{Tokens, countOf, fin, halt, more, tokensAt}
 use Rattle.laws.proofs.Cases.{never, split}
 use Rattle.listing.proofs.Stores.{by-test}
-use Rattle.listing.specs.Listing.{answerOf, listOf, noRoom, storedOf, wordsOf}
+use Rattle.listing.specs.Listing.{listAnswer, listOf, listedWords, noRoom, storedOf}
 use Rattle.listing.specs.declared.Listed.{Listed}
 use Rattle.listing.specs.declared.Listed.the-variants.{Stopped, Whole}
 use Rattle.readers.specs.Rules.{rulesOf}
 use Rattle.readers.specs.declared.reading.Reading.{Reading}
-use Rattle.sound.specs.Source.{sourceTest}
-use Rattle.sound.specs.declared.Tested.{Tested}
-use Rattle.sound.specs.declared.Tested.the-variants.{IllFormed, Misplaced, Sound, TooLong}
-use Rattle.tokens.specs.Tokens.{Tokens, countOf, fin, halt, more, tokensAt}
+use Rattle.source_test.specs.Source.{sourceTest}
+use Rattle.source_test.specs.declared.Tested.{Tested}
+use Rattle.source_test.specs.declared.Tested.the-variants.{Sound, Unsound}
 
 abbrev pub countIn : Listed → ℕ
 countIn (Whole n) = n
 countIn (Stopped n r) = n
 
 -- n tokens were stored before
-three-from : (ts : Tokens) (room n : ℕ) → 3 * n + length (wordsOf ts room) ≡ 3 * countIn (answerOf ts room n)
-unfolding answerOf wordsOf
+three-from : (ts : Tokens) (room n : ℕ) → 3 * n + length (listedWords ts room) ≡ 3 * countIn (listAnswer ts room n)
+unfolding listAnswer listedWords
 three-from fin room n = omega arith
 three-from (halt r) room n = omega arith
 three-from (more k ts) room n =
-    split (ltb room 3) (λ e. rw (e, answerOf, wordsOf) (omega arith))
-    (λ e. rw (e, answerOf, wordsOf) (let h = three-from ts (room - 3) (n + 1) in omega arith))
+    split (ltb room 3) (λ e. rw (e, listAnswer, listedWords) (omega arith))
+    (λ e. rw (e, listAnswer, listedWords) (let h = three-from ts (room - 3) (n + 1) in omega arith))
 
-counted-from : (ts : Tokens) (room n : ℕ) → 3 * countOf ts ≤ room → countIn (answerOf ts room n) ≡ n + countOf ts
-unfolding answerOf countOf
+counted-from : (ts : Tokens) (room n : ℕ) → 3 * countOf ts ≤ room → countIn (listAnswer ts room n) ≡ n + countOf ts
+unfolding listAnswer countOf
 counted-from fin room n h = omega arith
 counted-from (halt r) room n h = omega arith
-counted-from (more k ts) room n h = rw (le-ltb room 3 (omega arith), answerOf) (let i = counted-from ts (room - 3) (n + 1) (omega arith) in omega arith)
+counted-from (more k ts) room n h = rw (le-ltb room 3 (omega arith), listAnswer) (let i = counted-from ts (room - 3) (n + 1) (omega arith) in omega arith)
 
-whole-from : (ts : Tokens) (room n m : ℕ) → answerOf ts room n ≡ Whole m → m ≡ n + countOf ts
-unfolding answerOf countOf
+whole-from : (ts : Tokens) (room n m : ℕ) → listAnswer ts room n ≡ Whole m → m ≡ n + countOf ts
+unfolding listAnswer countOf
 whole-from fin room n m h = let e : n ≡ m = ap countIn h in omega arith
 whole-from (halt r) room n m h = never (cc)
 whole-from (more k ts) room n m h =
-    split (ltb room 3) (λ e. never (let z : answerOf (more k ts) room n ≡ Stopped n (noRoom k) = rw (e, answerOf) in cc))
-    (λ e. let z : answerOf (more k ts) room n ≡ answerOf ts (room - 3) (n + 1) = rw (e, answerOf) in let i = whole-from ts (room - 3) (n + 1) m (sym z ∙ h) in omega arith)
+    split (ltb room 3) (λ e. never (let z : listAnswer (more k ts) room n ≡ Stopped n (noRoom k) = rw (e, listAnswer) in cc))
+    (λ e. let z : listAnswer (more k ts) room n ≡ listAnswer ts (room - 3) (n + 1) = rw (e, listAnswer) in let i = whole-from ts (room - 3) (n + 1) m (sym z ∙ h) in omega arith)
 
 -- three words for each counted token, whatever the answer
 pub three-words : (g : Reading) (s : List ℕ) (room : ℕ) → length (storedOf g s room) ≡ 3 * countIn (listOf g s room)
@@ -51,9 +51,7 @@ three-words g s room = by-source (sourceTest s) refl
   where
     by-source : (t : Tested) → t ≡ sourceTest s → length (storedOf g s room) ≡ 3 * countIn (listOf g s room)
     by-source Sound e = let b = by-test g s room Sound e in rw (b .0, b .1) (let z = three-from (tokensAt (rulesOf g) s 0) room 0 in omega arith)
-    by-source TooLong e = let b = by-test g s room TooLong e in rw (b .0, b .1) refl
-    by-source (IllFormed p) e = let b = by-test g s room (IllFormed p) e in rw (b .0, b .1) refl
-    by-source (Misplaced p) e = let b = by-test g s room (Misplaced p) e in rw (b .0, b .1) refl
+    by-source (Unsound r) e = let b = by-test g s room (Unsound r) e in rw (b .0, b .1) refl
 
 -- with room for all tokens of a sound source, all are counted, those before a refusal too
 pub counted : (g : Reading) (s : List ℕ) (room : ℕ) → sourceTest s ≡ Sound → 3 * countOf (tokensAt (rulesOf g) s 0) ≤ room → countIn (listOf g s room) ≡ countOf (tokensAt (rulesOf g) s 0)
@@ -65,6 +63,4 @@ whole-counted g s room m h = by-source (sourceTest s) refl
   where
     by-source : (t : Tested) → t ≡ sourceTest s → m ≡ countOf (tokensAt (rulesOf g) s 0)
     by-source Sound e = let z = whole-from (tokensAt (rulesOf g) s 0) room 0 m (sym (by-test g s room Sound e .0) ∙ h) in omega arith
-    by-source TooLong e = never (let b = by-test g s room TooLong e .0 in cc)
-    by-source (IllFormed p) e = never (let b = by-test g s room (IllFormed p) e .0 in cc)
-    by-source (Misplaced p) e = never (let b = by-test g s room (Misplaced p) e .0 in cc)
+    by-source (Unsound r) e = never (let b = by-test g s room (Unsound r) e .0 in cc)

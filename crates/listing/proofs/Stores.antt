@@ -6,27 +6,26 @@ use native.Mathlib.Omega.{arith}
 use lib.Seq.{sets}
 use lib.ListN.{length, length-set, set}
 use borrow.Author.Tests.{le-ltb, lt-ltb}
+use Rattle.families.proofs.Steps.{tokens-fin, tokens-halt, tokens-more, tokens-past, tokens-room, tokens-start}
+use Rattle.families.specs.Tokens.{Tokens, fin, halt, more, tokensAt}
 use Rattle.laws.specs.Bools.{same}
 use Rattle.lexer.specs.Next.{nextAt}
-use Rattle.listing.specs.Listing.{answerOf, listOf, noRoom, storedOf, wordsOf}
+use Rattle.listing.specs.Listing.{listAnswer, listOf, listedWords, noRoom, storedOf}
 use Rattle.listing.specs.declared.Listed.{Listed}
 use Rattle.listing.specs.declared.Listed.the-variants.{Stopped, Whole}
 use Rattle.numbers.specs.Kinds.{numberOf}
-use Rattle.quick_tokens.proofs.Sure.{Told, quick-told}
-use Rattle.quick_tokens.specs.Tokens.{quickTokenAt}
-use Rattle.quick_tokens.specs.declared.Quick.{Quick}
+use Rattle.quick.proofs.Sure.{Told, quick-told}
+use Rattle.quick.specs.Tokens.{quickTokenAt}
+use Rattle.quick.specs.declared.tokens.Quick.{Quick}
 use Rattle.readers.specs.Rules.{rulesOf}
 use Rattle.readers.specs.declared.reading.Reading.{Reading}
-use Rattle.sound.specs.Source.{sourceTest}
-use Rattle.sound.specs.declared.Tested.{Tested}
-use Rattle.sound.specs.declared.Tested.the-variants.{IllFormed, Misplaced, Sound, TooLong}
-use Rattle.token.specs.Reads.{pointRefusal, spanOf}
+use Rattle.source_test.specs.Source.{afterTest, sourceTest}
+use Rattle.source_test.specs.declared.Tested.{Tested}
+use Rattle.token.specs.Reads.{spanOf}
 use Rattle.token.specs.declared.read.Read.{Read}
 use Rattle.token.specs.declared.read.Read.the-variants.{Got, Refused}
 use Rattle.token.specs.declared.read.Refusal.{Refusal}
 use Rattle.token.specs.declared.read.Token.{Token}
-use Rattle.tokens.proofs.Steps.{tokens-fin, tokens-halt, tokens-more, tokens-past, tokens-room, tokens-start}
-use Rattle.tokens.specs.Tokens.{Tokens, fin, halt, more, tokensAt}
 
 store-three : (out w : List ℕ) (n a b c : ℕ) → sets (set (set (set out n a) (n + 1) b) (n + 2) c) (n + 3) w ≡ sets out n (a ∷ (b ∷ (c ∷ w)))
 store-three out w n a b c =
@@ -39,8 +38,8 @@ length-three : (out : List ℕ) (n a b c : ℕ) → length (set (set (set out n 
 length-three out n a b c = simp length-set
 
 pub record Head (g : Reading) (s out₀ out : List ℕ) (at n count : ℕ) : Type 0 where
-  pub answers : answerOf (tokensAt (rulesOf g) s at) (length out - n) count ≡ answerOf (tokensAt (rulesOf g) s 0) (length out₀) 0
-  pub stores : sets out n (wordsOf (tokensAt (rulesOf g) s at) (length out - n)) ≡ sets out₀ 0 (wordsOf (tokensAt (rulesOf g) s 0) (length out₀))
+  pub answers : listAnswer (tokensAt (rulesOf g) s at) (length out - n) count ≡ listAnswer (tokensAt (rulesOf g) s 0) (length out₀) 0
+  pub stores : sets out n (listedWords (tokensAt (rulesOf g) s at) (length out - n)) ≡ sets out₀ 0 (listedWords (tokensAt (rulesOf g) s 0) (length out₀))
   pub in-source : at ≤ length s
   pub in-store : n ≤ length out
   pub same : length out ≡ length out₀
@@ -50,8 +49,8 @@ pub head-first : (g : Reading) (s out : List ℕ) → Head g s out out 0 0 0
 head-first g s out =
     let z : length out - 0 ≡ length out = omega arith in
     record {
-      answers = ap (λ (k : ℕ). answerOf (tokensAt (rulesOf g) s 0) k 0) z;
-      stores = ap (λ (k : ℕ). sets out 0 (wordsOf (tokensAt (rulesOf g) s 0) k)) z;
+      answers = ap (λ (k : ℕ). listAnswer (tokensAt (rulesOf g) s 0) k 0) z;
+      stores = ap (λ (k : ℕ). sets out 0 (listedWords (tokensAt (rulesOf g) s 0) k)) z;
       in-source = omega arith;
       in-store = omega arith;
       same = refl;
@@ -60,33 +59,33 @@ head-first g s out =
 
 module _ (g : Reading) (s out₀ out : List ℕ) (at n count : ℕ) (h : Head g s out₀ out at n count) where
   abbrev Done : Listed → Type 0
-  Done x = (x ≡ answerOf (tokensAt (rulesOf g) s 0) (length out₀) 0) × (out ≡ sets out₀ 0 (wordsOf (tokensAt (rulesOf g) s 0) (length out₀)))
+  Done x = (x ≡ listAnswer (tokensAt (rulesOf g) s 0) (length out₀) 0) × (out ≡ sets out₀ 0 (listedWords (tokensAt (rulesOf g) s 0) (length out₀)))
 
   -- nothing more is written
-  finish : (ts : Tokens) → tokensAt (rulesOf g) s at ≡ ts → (x : Listed) → answerOf ts (length out - n) count ≡ x → wordsOf ts (length out - n) ≡ [] → Done x
+  finish : (ts : Tokens) → tokensAt (rulesOf g) s at ≡ ts → (x : Listed) → listAnswer ts (length out - n) count ≡ x → listedWords ts (length out - n) ≡ [] → Done x
   finish ts e x ea ew = (
-    sym ea ∙ ap (λ (t : Tokens). answerOf t (length out - n) count) (sym e) ∙ h .answers,
-    sym (ap (sets out n) ew) ∙ ap (λ (t : Tokens). sets out n (wordsOf t (length out - n))) (sym e) ∙ h .stores,
+    sym ea ∙ ap (λ (t : Tokens). listAnswer t (length out - n) count) (sym e) ∙ h .answers,
+    sym (ap (sets out n) ew) ∙ ap (λ (t : Tokens). sets out n (listedWords t (length out - n))) (sym e) ∙ h .stores,
   )
 
   module _ (r : Read) (er : r ≡ nextAt g s at) where
     pub list-halt : (k : Refusal) → r ≡ Refused k → Done (Stopped count k)
-    unfolding answerOf wordsOf
+    unfolding listAnswer listedWords
     list-halt k e = finish (halt k) (tokens-halt g s at r er k e) (Stopped count k) refl refl
 
     module _ (k : Token) (e : r ≡ Got k) where
       pub list-fin : k .span .end ≡ at → Done (Whole count)
-      unfolding answerOf wordsOf
+      unfolding listAnswer listedWords
       list-fin z = finish fin (tokens-fin g s at r er k e z) (Whole count) refl refl
 
       module _ (z : k .span .end ≡ at → ⊥) where
         pub list-short : length out - n < 3 → Done (Stopped count (noRoom k))
-        unfolding answerOf wordsOf
+        unfolding listAnswer listedWords
         list-short l =
-            finish (more k (tokensAt (rulesOf g) s (k .span .end))) (tokens-more g s at r er k e z) (Stopped count (noRoom k)) (rw (lt-ltb (length out - n) 3 l, answerOf)) (rw (lt-ltb (length out - n) 3 l, wordsOf))
+            finish (more k (tokensAt (rulesOf g) s (k .span .end))) (tokens-more g s at r er k e z) (Stopped count (noRoom k)) (rw (lt-ltb (length out - n) 3 l, listAnswer)) (rw (lt-ltb (length out - n) 3 l, listedWords))
 
         turn : 3 ≤ length out - n → Head g s out₀ (set (set (set out n (numberOf (k .kind))) (n + 1) at) (n + 2) (k .span .end)) (k .span .end) (n + 3) (count + 1)
-        unfolding answerOf wordsOf
+        unfolding listAnswer listedWords
         turn l =
             let end = k .span .end in
             let ts = tokensAt (rulesOf g) s end in
@@ -100,11 +99,11 @@ module _ (g : Reading) (s out₀ out : List ℕ) (at n count : ℕ) (h : Head g 
             let past = tokens-past g s at r er k e z in
             record {
               answers =
-                  ap (λ (m : ℕ). answerOf ts m (count + 1)) left ∙ sym (ap (λ (t : Tokens). answerOf t (length out - n) count) whole ∙ rw (le-ltb (length out - n) 3 l, answerOf)) ∙ h .answers;
+                  ap (λ (m : ℕ). listAnswer ts m (count + 1)) left ∙ sym (ap (λ (t : Tokens). listAnswer t (length out - n) count) whole ∙ rw (le-ltb (length out - n) 3 l, listAnswer)) ∙ h .answers;
               stores =
-                  ap (λ (m : ℕ). sets next (n + 3) (wordsOf ts m)) left ∙ store-three out (wordsOf ts (length out - n - 3)) n (numberOf (k .kind)) at end
-                  ∙ ap (λ (x : ℕ). sets out n (numberOf (k .kind) ∷ (x ∷ (end ∷ wordsOf ts (length out - n - 3))))) (sym start)
-                  ∙ sym (ap (λ (t : Tokens). sets out n (wordsOf t (length out - n))) whole ∙ rw (le-ltb (length out - n) 3 l, wordsOf)) ∙ h .stores;
+                  ap (λ (m : ℕ). sets next (n + 3) (listedWords ts m)) left ∙ store-three out (listedWords ts (length out - n - 3)) n (numberOf (k .kind)) at end
+                  ∙ ap (λ (x : ℕ). sets out n (numberOf (k .kind) ∷ (x ∷ (end ∷ listedWords ts (length out - n - 3))))) (sym start)
+                  ∙ sym (ap (λ (t : Tokens). sets out n (listedWords t (length out - n))) whole ∙ rw (le-ltb (length out - n) 3 l, listedWords)) ∙ h .stores;
               in-source = tokens-room g s at r er k e z;
               in-store = omega arith;
               same = len ∙ h .same;
@@ -149,7 +148,7 @@ module _ (g : Reading) (s out₀ out : List ℕ) (at n count : ℕ) (h : Head g 
 
 -- the tests before, and the whole
 pub by-test : (g : Reading) (s : List ℕ) (room : ℕ) (t : Tested) → t ≡ sourceTest s
-    → (listOf g s room ≡ elim t [ Sound ↦ answerOf (tokensAt (rulesOf g) s 0) room 0 | TooLong ↦ Stopped 0 (pointRefusal 1 0) | IllFormed p ↦ Stopped 0 (pointRefusal 2 p) | Misplaced p ↦ Stopped 0 (pointRefusal 4 p) ])
-    × (storedOf g s room ≡ elim t [ Sound ↦ wordsOf (tokensAt (rulesOf g) s 0) room | TooLong ↦ [] | IllFormed p ↦ [] | Misplaced p ↦ [] ])
+    → (listOf g s room ≡ afterTest t (listAnswer (tokensAt (rulesOf g) s 0) room 0) (Stopped 0))
+    × (storedOf g s room ≡ afterTest t (listedWords (tokensAt (rulesOf g) s 0) room) (λ r. []))
 unfolding listOf storedOf
 by-test g s room t e = (rw (← e, listOf), rw (← e, storedOf))

@@ -1,28 +1,27 @@
 -- Document 01, listing: three words a token, up to the end, the first refusal, or a token for which the store has no place.
 use Prim.Native.Nat.{ℕ, _+_, _-_}
-use mathlib.Core.List.{List, [], _∷_}
+use mathlib.Core.List.{List, []}
 use mathlib.Core.Bool.{true, false}
 use lib.Dec.{ltb}
+use Rattle.families.specs.Tokens.{Tokens, fin, halt, more, tokensAt}
 use Rattle.listing.specs.declared.Listed.{Listed}
 use Rattle.listing.specs.declared.Listed.the-variants.{Stopped, Whole}
 use Rattle.numbers.specs.Kinds.{numberOf}
 use Rattle.readers.specs.Rules.{rulesOf}
 use Rattle.readers.specs.declared.reading.Reading.{Reading}
-use Rattle.sound.specs.Source.{sourceTest}
-use Rattle.sound.specs.declared.Tested.the-variants.{IllFormed, Misplaced, Sound, TooLong}
-use Rattle.token.specs.Reads.{pointRefusal}
+use Rattle.rows.specs.Rows.{rowSize, rowWords}
+use Rattle.source_test.specs.Source.{afterTest, sourceTest}
 use Rattle.token.specs.declared.read.Refusal.{Refusal}
 use Rattle.token.specs.declared.read.Token.{Token}
-use Rattle.tokens.specs.Tokens.{Tokens, fin, halt, more, tokensAt}
 
 -- the words of the tokens for which there is room
-unfoldable pub wordsOf : Tokens → ℕ → List ℕ
-wordsOf fin room = []
-wordsOf (halt r) room = []
-wordsOf (more k ts) room =
-    elim (ltb room 3) [
+unfoldable pub listedWords : Tokens → ℕ → List ℕ
+listedWords fin room = []
+listedWords (halt r) room = []
+listedWords (more k ts) room =
+    elim (ltb room rowSize) [
       | true ↦ []
-      | false ↦ numberOf (k .kind) ∷ (k .span .start ∷ (k .span .end ∷ wordsOf ts (room - 3)))
+      | false ↦ rowWords (numberOf (k .kind)) (k .span .start) (k .span .end) (listedWords ts (room - rowSize))
     ]
 
 -- 3: the token just read, for which there was no place
@@ -30,26 +29,14 @@ abbrev pub noRoom : Token → Refusal
 noRoom k = record { number = 3; span = k .span; reached = k .span .end }
 
 -- the answer, where n tokens were stored before
-unfoldable pub answerOf : Tokens → ℕ → ℕ → Listed
-answerOf fin room n = Whole n
-answerOf (halt r) room n = Stopped n r
-answerOf (more k ts) room n = elim (ltb room 3) [ true ↦ Stopped n (noRoom k) | false ↦ answerOf ts (room - 3) (n + 1) ]
+unfoldable pub listAnswer : Tokens → ℕ → ℕ → Listed
+listAnswer fin room n = Whole n
+listAnswer (halt r) room n = Stopped n r
+listAnswer (more k ts) room n = elim (ltb room rowSize) [ true ↦ Stopped n (noRoom k) | false ↦ listAnswer ts (room - rowSize) (n + 1) ]
 
 -- 1 and 2 come first, and store nothing
 unfoldable pub listOf : Reading → List ℕ → ℕ → Listed
-listOf g s room =
-    elim (sourceTest s) [
-      | Sound ↦ answerOf (tokensAt (rulesOf g) s 0) room 0
-      | TooLong ↦ Stopped 0 (pointRefusal 1 0)
-      | IllFormed p ↦ Stopped 0 (pointRefusal 2 p)
-      | Misplaced p ↦ Stopped 0 (pointRefusal 4 p)
-    ]
+listOf g s room = afterTest (sourceTest s) (listAnswer (tokensAt (rulesOf g) s 0) room 0) (Stopped 0)
 
 unfoldable pub storedOf : Reading → List ℕ → ℕ → List ℕ
-storedOf g s room =
-    elim (sourceTest s) [
-      | Sound ↦ wordsOf (tokensAt (rulesOf g) s 0) room
-      | TooLong ↦ []
-      | IllFormed p ↦ []
-      | Misplaced p ↦ []
-    ]
+storedOf g s room = afterTest (sourceTest s) (listedWords (tokensAt (rulesOf g) s 0) room) (λ r. [])

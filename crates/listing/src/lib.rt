@@ -1,41 +1,25 @@
 // The tokens of a source, three words each (kind, start, end), in a lent store; later words keep their content.
 use readers::Reading;
-use sound::Tested;
+use rows::ROW;
+use source_test::Tested;
 use token::Read;
 use token::Refusal;
 use token::Span;
-use token::refusal::ILL_FORMED;
-use token::refusal::NO_PLACE;
 use token::refusal::NO_ROOM;
-use token::refusal::TOO_LONG;
 ghost use Prim.Native.Nat.{_+_, _≤_};
 ghost use mathlib.Core.Path.{_≡_};
 ghost use lib.Seq.{sets};
 ghost use lib.ListN.{length, set};
+ghost use Rattle.families.specs.Tokens.{tokensAt};
 ghost use Rattle.lexer.specs.Next.{nextAt};
-ghost use Rattle.listing.specs.Listing.{answerOf, listOf, storedOf, wordsOf};
+ghost use Rattle.listing.specs.Listing.{listAnswer, listOf, listedWords, storedOf};
 ghost use Rattle.listing.specs.declared.Listed.the-variants.{Stopped};
 ghost use Rattle.readers.specs.Rules.{rulesOf};
-ghost use Rattle.token.specs.Reads.{pointRefusal};
-ghost use Rattle.tokens.specs.Tokens.{tokensAt};
 
 // The count of stored tokens, with the refusal that ended the listing if there was one.
 pub enum Listed {
     Whole { count: usize },
     Stopped { count: usize, refusal: Refusal },
-}
-
-fn refused_at(number: u32, at: usize) -> Listed
-    ensures { λ r. ⌜ r ≡ Stopped 0 (pointRefusal number at) ⌝ }
-{
-    Listed::Stopped {
-        count: 0,
-        refusal: Refusal {
-            number,
-            span: Span { start: at, end: at },
-            reached: at,
-        },
-    }
 }
 
 // The store has no room for the token just read.
@@ -60,7 +44,7 @@ fn next_token(s: &[u8], reading: Reading, at: usize) -> Read
     if at == 0 {
         return lexer::next(s, reading, at);
     }
-    lexer::later(s, reading, at)
+    lexer::next_past_start(s, reading, at)
 }
 
 // The three words of a token, at place n of the store.
@@ -75,44 +59,44 @@ fn put(store: &mut [u32], n: usize, number: u32, at: usize, end: usize)
 
 fn list_tokens(s: &[u8], reading: Reading, store: &mut [u32]) -> Listed
     requires { ⌜ length (now s) ≤ 65536 ⌝ }
-    ensures { λ r. ⌜ (r ≡ answerOf (tokensAt (rulesOf reading) (now (s .entry)) 0) (length (now (store .entry))) 0)
-        × (now (store .exit) ≡ sets (now (store .entry)) 0 (wordsOf (tokensAt (rulesOf reading) (now (s .entry)) 0) (length (now (store .entry))))) ⌝ }
+    ensures { λ r. ⌜ (r ≡ listAnswer (tokensAt (rulesOf reading) (now (s .entry)) 0) (length (now (store .entry))) 0)
+        × (now (store .exit) ≡ sets (now (store .entry)) 0 (listedWords (tokensAt (rulesOf reading) (now (s .entry)) 0) (length (now (store .entry))))) ⌝ }
 {
     let mut at: usize = 0;
     let mut n: usize = 0;
     let mut count: usize = 0;
     loop {
-        let quick = quick_tokens::quick_token(s, at);
+        let quick = quick::quick_token(s, at);
         if quick.number != 0 {
             let end = quick.end;
-            if store.len() - n < 3 {
+            if store.len() - n < ROW {
                 return no_room(count, Span { start: at, end });
             }
             put(store, n, quick.number, at, end);
-            n = n + 3;
+            n = n + ROW;
             count = count + 1;
             at = end;
         } else {
-            match next_token(s, reading, at) {
-                Read::Refused { refusal } => {
-                    return Listed::Stopped { count, refusal };
-                }
-                Read::Got { token } => {
-                    let kind = token.kind;
-                    let span = token.span;
-                    let end = span.end;
-                    if end == at {
-                        return Listed::Whole { count };
-                    }
-                    if store.len() - n < 3 {
-                        return no_room(count, span);
-                    }
-                    put(store, n, numbers::number_of(kind), at, end);
-                    n = n + 3;
-                    count = count + 1;
-                    at = end;
-                }
+            let answer = next_token(s, reading, at);
+            let Read::Got { token } = answer else {
+                return Listed::Stopped {
+                    count,
+                    refusal: token::refusal_in(answer),
+                };
+            };
+            let kind = token.kind;
+            let span = token.span;
+            let end = span.end;
+            if end == at {
+                return Listed::Whole { count };
             }
+            if store.len() - n < ROW {
+                return no_room(count, span);
+            }
+            put(store, n, numbers::number_of(kind), at, end);
+            n = n + ROW;
+            count = count + 1;
+            at = end;
         }
     }
 }
@@ -121,10 +105,8 @@ pub fn list(s: &[u8], reading: Reading, store: &mut [u32]) -> Listed
     ensures { λ r. ⌜ (r ≡ listOf reading (now (s .entry)) (length (now (store .entry))))
         × (now (store .exit) ≡ sets (now (store .entry)) 0 (storedOf reading (now (s .entry)) (length (now (store .entry))))) ⌝ }
 {
-    match sound::test_source(s) {
+    match source_test::test_source(s) {
         Tested::Sound => list_tokens(s, reading, store),
-        Tested::TooLong => refused_at(TOO_LONG, 0),
-        Tested::IllFormed { at } => refused_at(ILL_FORMED, at),
-        Tested::Misplaced { at } => refused_at(NO_PLACE, at),
+        Tested::Unsound { refusal } => Listed::Stopped { count: 0, refusal },
     }
 }

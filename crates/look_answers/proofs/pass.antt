@@ -1,3 +1,4 @@
+-- Made from tools/walks.py by tools/pass.py: change that, not this.
 -- The walks of the calls.
 
 pub mod OfList

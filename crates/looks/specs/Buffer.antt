@@ -1,7 +1,7 @@
 -- Document 01, "The lookahead buffer": the two rings of the state, and filling.
 use Prim.Native.Nat.{ℕ, zero, suc, _+_, _-_, _%_, _≤_, _<_}
 use mathlib.Core.Path.{_≡_}
-use mathlib.Core.List.{List, [], _∷_}
+use mathlib.Core.List.{List, []}
 use mathlib.Core.Bool.{Bool, true}
 use lib.Dec.{leb, ltb}
 use lib.ListN.{getD, set}
@@ -9,6 +9,7 @@ use Rattle.laws.specs.Bools.{both, pick}
 use Rattle.looks.specs.Numbered.{dark, tokenCount}
 use Rattle.looks.specs.declared.emit.Words.{Words}
 use Rattle.looks.specs.declared.state.Nums.{Nums}
+use Rattle.rows.specs.Rows.{rowWords}
 
 -- the numbers, by the six words of the state
 abbrev pub numsOf : List ℕ → Nums
@@ -106,4 +107,4 @@ pub record Gatherable (l : List ℕ) (times : ℕ) (m : Nums) : Type 0 where
 
 -- a token of three words
 abbrev pub wordsOf : Words → List ℕ
-wordsOf w = w .kind ∷ w .start ∷ w .end ∷ []
+wordsOf w = rowWords (w .kind) (w .start) (w .end) []

@@ -1,5 +1,5 @@
 -- Document 01, "The lookahead buffer": what each call answers, emits and leaves.
-use Prim.Native.Nat.{ℕ, zero, suc, _+_, _-_, _*_, _%_, _≤_, _<_}
+use Prim.Native.Nat.{ℕ, zero, suc, _+_, _-_, _%_, _≤_, _<_}
 use mathlib.Core.List.{List, [], _++_}
 use lib.Dec.{leb, eqb}
 use lib.ListN.{getD, length, set}
@@ -10,6 +10,7 @@ use Rattle.looks.specs.Sound.{countSum, soundBy}
 use Rattle.looks.specs.declared.look.Looked.{Looked}
 use Rattle.looks.specs.declared.look.Looked.the-variants.{Done, Refused}
 use Rattle.looks.specs.declared.state.Nums.{Nums}
+use Rattle.rows.specs.Rows.{rowPlace, rowSize}
 
 abbrev pub withNums : Nums → State → State
 withNums m f = stateOf m (f .held) (f .counts) (f .waiting)
@@ -57,7 +58,7 @@ storedBy room st turn = pick (leb (length (turn .written)) room) turn (refuses 3
 
 -- how many words a call of the front writes: the white space alone, the token too, or nothing unless it is of the kind
 unfoldable pub needBy : ℕ → ℕ → ℕ → ℕ → ℕ
-needBy how kind white found = pick (eqb how 0) (white * 3) (pick (either (eqb how 1) (eqb found kind)) (white * 3 + 3) 0)
+needBy how kind white found = pick (eqb how 0) (rowPlace white) (pick (either (eqb how 1) (eqb found kind)) (rowPlace white + rowSize) 0)
 
 abbrev pub needOf : List ℕ → ℕ → ℕ → State → ℕ
 needOf l how kind f = needBy how kind (whiteOf f) (getD (nthOf l 0 f) 0 0)

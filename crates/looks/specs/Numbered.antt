@@ -1,23 +1,24 @@
 -- Document 01, "The lookahead buffer": tokens by their numbers in the lent list, three words a token; past the list's end a word is 0.
-use Prim.Native.Nat.{ℕ, zero, suc, _+_, _-_, _*_, _/_}
+use Prim.Native.Nat.{ℕ, zero, suc, _+_, _-_, _/_}
 use mathlib.Core.List.{List, [], _∷_}
 use mathlib.Core.Bool.{Bool}
 use lib.Dec.{leb, eqb}
 use lib.ListN.{getD, length}
 use Rattle.laws.specs.Bools.{pick, within}
+use Rattle.rows.specs.Rows.{rowPlace, rowSize}
 
 -- a number is a u32. A list that 34 does not refuse has fewer tokens than that, since each ends past its start
 unfoldable pub tokenCount : List ℕ → ℕ
-tokenCount l = pick (leb (length l / 3) 4294967295) (length l / 3) 4294967295
+tokenCount l = pick (leb (length l / rowSize) 4294967295) (length l / rowSize) 4294967295
 
 abbrev pub kindAt : List ℕ → ℕ → ℕ
-kindAt l i = getD l (i * 3) 0
+kindAt l i = getD l (rowPlace i) 0
 
 abbrev pub startAt : List ℕ → ℕ → ℕ
-startAt l i = getD l (i * 3 + 1) 0
+startAt l i = getD l (rowPlace i + 1) 0
 
 abbrev pub endAt : List ℕ → ℕ → ℕ
-endAt l i = getD l (i * 3 + 2) 0
+endAt l i = getD l (rowPlace i + 2) 0
 
 abbrev pub tokenAt : List ℕ → ℕ → List ℕ
 tokenAt l i = kindAt l i ∷ startAt l i ∷ endAt l i ∷ []

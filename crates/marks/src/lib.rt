@@ -1,9 +1,20 @@
-// The lengths of the marks that stay before and after a token's inside, by its kind.
+// Which tokens have an inside, and the lengths of the marks that stay before and after it, by kind.
 use token::Kind;
 ghost use mathlib.Core.Path.{_≡_};
 ghost use lib.ListN.{length};
 ghost use Rattle.marks.specs.Marks.{closeMark, openMark};
 ghost use Rattle.marks.specs.Shut.{isShut};
+ghost use Rattle.numbers.specs.Kinds.{hasInside};
+
+// Whether the outline paints what stands between its marks.
+pub fn has_inside(kind: Kind) -> bool
+    ensures { λ r. ⌜ r ≡ hasInside kind ⌝ }
+{
+    match numbers::number_of(kind) {
+        2..=4 | 11..=14 | 16 => true,
+        _ => false,
+    }
+}
 
 // How many bytes of a token stay before its inside.
 pub fn opens(kind: Kind) -> usize

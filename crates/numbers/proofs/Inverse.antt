@@ -11,21 +11,21 @@ use borrow.Author.Tests.{eqb-true}
 use Rattle.laws.proofs.Cases.{never, split-le}
 use Rattle.laws.proofs.Tables.{below-at}
 use Rattle.laws.specs.Tables.{everyBelow}
-use Rattle.numbers.specs.Kinds.{kindAt, kindOf, kinds, numberOf, plainKind, plainNumber}
+use Rattle.numbers.specs.Kinds.{kindOf, kinds, nthKind, numberOf, plainKind, plainNumber}
 use Rattle.token.specs.declared.kind.Bracket.the-variants.{Curly, Round, Square}
 use Rattle.token.specs.declared.kind.Kind.{Kind}
 use Rattle.token.specs.declared.kind.Kind.the-variants.{Amp, AmpAmp, AmpEq, Arrow, At, Bang, BangEq, Byte, ByteStr, Caret, CaretEq, Char, Close, Colon, ColonColon, Comma, Comment, Dash, DashEq, Div, Dollar, Dot, DotDot, DotDotEq, Eof, Eq, EqEq, Gt, GtEq, GtGt, GtGtEq, Ident, Label, Lt, LtEq, LtLt, LtLtEq, MultilineComment, Number, Open, Perc, PercEq, Pipe, PipeEq, PipePipe, Plus, PlusEq, Pound, QuestionMark, Rocket, SemiColon, Shebang, SlashEq, Star, StarEq, Str, Template, Tilde, Underscore, Whitespace}
 use Rattle.token.specs.declared.kind.Known.{Known}
 use Rattle.token.specs.declared.kind.Known.the-variants.{Is, Unknown}
 
-kind-in : (ks : List Kind) (n : ℕ) → n < length ks → kindAt ks n ≡ Is (getD ks n Whitespace)
-unfolding kindAt
+kind-in : (ks : List Kind) (n : ℕ) → n < length ks → nthKind ks n ≡ Is (getD ks n Whitespace)
+unfolding nthKind
 kind-in [] n h = absurd (omega arith)
 kind-in (k ∷ ks) zero h = refl
 kind-in (k ∷ ks) (suc n) h = kind-in ks n (omega arith)
 
-kind-past : (ks : List Kind) (n : ℕ) → length ks ≤ n → kindAt ks n ≡ Unknown
-unfolding kindAt
+kind-past : (ks : List Kind) (n : ℕ) → length ks ≤ n → nthKind ks n ≡ Unknown
+unfolding nthKind
 kind-past [] n h = refl
 kind-past (k ∷ ks) zero h = absurd (omega arith)
 kind-past (k ∷ ks) (suc n) h = kind-past ks n (omega arith)
@@ -48,7 +48,7 @@ kind-at (suc n) h k =
 
 -- the table has every kind but the unclosed template at its number
 known : (k : Kind) → (k ≡ Template false) ⊎ (kindOf (numberOf k) ≡ Is k)
-unfolding kindOf kinds kindAt numberOf
+unfolding kindOf kinds nthKind numberOf
 known Whitespace = inr refl
 known Comment = inr refl
 known (MultilineComment true) = inr refl

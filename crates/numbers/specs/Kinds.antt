@@ -98,15 +98,15 @@ kinds =
     DotDotEq ∷ LtLtEq ∷ GtGtEq ∷ Eof ∷ []
 
 -- the kind at a place of a list, counted from 0
-unfoldable pub kindAt : List Kind → ℕ → Known
-kindAt [] n = Unknown
-kindAt (k ∷ ks) zero = Is k
-kindAt (k ∷ ks) (suc n) = kindAt ks n
+unfoldable pub nthKind : List Kind → ℕ → Known
+nthKind [] n = Unknown
+nthKind (k ∷ ks) zero = Is k
+nthKind (k ∷ ks) (suc n) = nthKind ks n
 
 -- the kind of a number, counted from 1
 unfoldable pub kindOf : ℕ → Known
 kindOf zero = Unknown
-kindOf (suc n) = kindAt kinds n
+kindOf (suc n) = nthKind kinds n
 
 -- the outline paints the inside of kinds 2, 3, 4, 11 to 14 and 16
 abbrev pub hasInside : Kind → Bool

@@ -24,23 +24,23 @@ module _ (R : Rules) where
   by-length Nothing (Found j p) h k e q x y z = y q
   by-length Nothing Nothing h k e q x y z = z q
 
-  three-lands : (v : ℕ) (cs : List ℕ) (p : ℕ) (k : Kind) (e : ℕ) → findThree (R .wide) v cs p ≡ Found k e → Lands R cs p e
+  three-lands : (v : ℕ) (cs : List ℕ) (p : ℕ) (k : Kind) (e : ℕ) → findThree (R .stride) v cs p ≡ Found k e → Lands R cs p e
   unfolding findThree
   three-lands v [] p k e h = never (cc)
   three-lands v (w ∷ []) p k e h = never (cc)
   three-lands v (w ∷ (x ∷ cs)) p k e h =
-      let q = found-lands (lookThree threes v w x) (p + R .wide w + R .wide x) k e h in
-      inr (inr (subst (λ (z : ℕ). Lands R cs (p + R .wide w + R .wide x) z) q (lands-here R cs (p + R .wide w + R .wide x))))
+      let q = found-lands (lookThree threes v w x) (p + R .stride w + R .stride x) k e h in
+      inr (inr (subst (λ (z : ℕ). Lands R cs (p + R .stride w + R .stride x) z) q (lands-here R cs (p + R .stride w + R .stride x))))
 
-  two-lands : (v : ℕ) (cs : List ℕ) (p : ℕ) (k : Kind) (e : ℕ) → findTwo (R .wide) v cs p ≡ Found k e → Lands R cs p e
+  two-lands : (v : ℕ) (cs : List ℕ) (p : ℕ) (k : Kind) (e : ℕ) → findTwo (R .stride) v cs p ≡ Found k e → Lands R cs p e
   unfolding findTwo
   two-lands v [] p k e h = never (cc)
   two-lands v (w ∷ cs) p k e h =
-      let q = found-lands (lookTwo twos v w) (p + R .wide w) k e h in
-      inr (subst (λ (z : ℕ). Lands R cs (p + R .wide w) z) q (lands-here R cs (p + R .wide w)))
+      let q = found-lands (lookTwo twos v w) (p + R .stride w) k e h in
+      inr (subst (λ (z : ℕ). Lands R cs (p + R .stride w) z) q (lands-here R cs (p + R .stride w)))
 
-  pub operator-lands : (v : ℕ) (cs : List ℕ) (p : ℕ) (k : Kind) (e : ℕ) → operatorOf (R .wide) v cs p ≡ Found k e → Lands R cs p e
+  pub operator-lands : (v : ℕ) (cs : List ℕ) (p : ℕ) (k : Kind) (e : ℕ) → operatorOf (R .stride) v cs p ≡ Found k e → Lands R cs p e
   unfolding operatorOf findOne
   operator-lands v cs p k e h =
-      by-length (findThree (R .wide) v cs p) (findTwo (R .wide) v cs p) (findOne v p) k e h (λ q. three-lands v cs p k e q) (λ q. two-lands v cs p k e q)
+      by-length (findThree (R .stride) v cs p) (findTwo (R .stride) v cs p) (findOne v p) k e h (λ q. three-lands v cs p k e q) (λ q. two-lands v cs p k e q)
       (λ q. subst (λ (z : ℕ). Lands R cs p z) (found-lands (lookOne ones v) p k e q) (lands-here R cs p))

@@ -5,7 +5,7 @@ use lib.Dec.{eqb}
 use Rattle.laws.specs.Bools.{both, pick}
 use Rattle.operators.specs.declared.Operator.{Operator}
 use Rattle.operators.specs.declared.Operator.the-variants.{Found, Nothing}
-use Rattle.readers.specs.Scan.{Wide}
+use Rattle.readers.specs.Scan.{Stride}
 use Rattle.token.specs.declared.kind.Bracket.the-variants.{Curly, Round, Square}
 use Rattle.token.specs.declared.kind.Kind.{Kind}
 use Rattle.token.specs.declared.kind.Kind.the-variants.{Amp, AmpAmp, AmpEq, Arrow, At, Bang, BangEq, Caret, CaretEq, Close, Colon, ColonColon, Comma, Dash, DashEq, Div, Dollar, Dot, DotDot, DotDotEq, Eq, EqEq, Gt, GtEq, GtGt, GtGtEq, Lt, LtEq, LtLt, LtLtEq, Open, Perc, PercEq, Pipe, PipeEq, PipePipe, Plus, PlusEq, Pound, QuestionMark, Rocket, SemiColon, SlashEq, Star, StarEq, Tilde}
@@ -56,15 +56,15 @@ orElse Nothing f = f
 unfoldable pub findOne : ℕ → ℕ → Operator
 findOne v p = foundAt (lookOne ones v) p
 
-unfoldable pub findTwo : Wide → ℕ → List ℕ → ℕ → Operator
-findTwo wide v [] p = Nothing
-findTwo wide v (w ∷ cs) p = foundAt (lookTwo twos v w) (p + wide w)
+unfoldable pub findTwo : Stride → ℕ → List ℕ → ℕ → Operator
+findTwo stride v [] p = Nothing
+findTwo stride v (w ∷ cs) p = foundAt (lookTwo twos v w) (p + stride w)
 
-unfoldable pub findThree : Wide → ℕ → List ℕ → ℕ → Operator
-findThree wide v [] p = Nothing
-findThree wide v (w ∷ []) p = Nothing
-findThree wide v (w ∷ (x ∷ cs)) p = foundAt (lookThree threes v w x) (p + wide w + wide x)
+unfoldable pub findThree : Stride → ℕ → List ℕ → ℕ → Operator
+findThree stride v [] p = Nothing
+findThree stride v (w ∷ []) p = Nothing
+findThree stride v (w ∷ (x ∷ cs)) p = foundAt (lookThree threes v w x) (p + stride w + stride x)
 
 -- three characters are tried before two, and two before one
-unfoldable pub operatorOf : Wide → ℕ → List ℕ → ℕ → Operator
-operatorOf wide v cs p = orElse (findThree wide v cs p) (orElse (findTwo wide v cs p) (findOne v p))
+unfoldable pub operatorOf : Stride → ℕ → List ℕ → ℕ → Operator
+operatorOf stride v cs p = orElse (findThree stride v cs p) (orElse (findTwo stride v cs p) (findOne v p))

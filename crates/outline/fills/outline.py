@@ -17,7 +17,7 @@ fill('fill', {
     'same-length': '@loop .inv .1',
     'returns': 'fill-none $m$ (@loop .out) $s$ $i$ $e$ (@loop-test .left) (@Start .pre .0) ∙ @loop .inv .0'}, macros=F)
 M = {'h': '(@Start .args .reading) (@Start .args .s .now) (@Start .args .out .now) (@loop .out) (@loop .at) (@loop .inv) (@next .result) (@next .ensures)',
-     'k': '(@token .given .0 .0) (@token .given .1)', 'kind': '(@token .given .0 .0 .kind)',
+     'k': '(@answer .given .0 .0) (@answer .given .1)', 'kind': '(@answer .given .0 .0 .kind)',
      'room': '(shade-room $h$ $k$ (@if1 .left))', 'past': '(shade-past $h$ $k$ (@if1 .left))'}
 fits = '(omega arith, omega (arith, @loop .inv))'
 fill('outline_tokens', {
@@ -25,7 +25,7 @@ fill('outline_tokens', {
     'loop-holds': 'shaded-first _ _ _ (@Start .pre)',
     'fill-requires': fits, 'fill-requires-2': fits,
     'same-length': '@fill .kept .1 .0 ∙ @loop .inv .same', 'same-length-2': '@fill2 .kept .1 .0 ∙ @loop .inv .same',
-    'returns': 'shade-halt $h$ (@refusal .given .0 .0) (@refusal .given .1) _ (@fill .ensures)',
+    'returns': 'let w = shade-halt $h$ (@enum-told .given .0 .0) (@enum-told .given .1) _ (@fill .ensures) in (ap Stopped (@refusal-in .ensures ∙ ap refusalIn (@enum-told .given .1)) ∙ w .0, w .1)',
     'returns-2': 'shade-fin $h$ $k$ (@if1 .taken) _ (@fill2 .ensures)',
     'add-fill': 'omega (arith, @opens .ensures, open-few $kind$ (numberOf $kind$) refl, @loop .inv, @Start .good)',
     'fill-requires-3': '($room$, omega (arith, $room$, @loop .inv))',
@@ -33,19 +33,11 @@ fill('outline_tokens', {
     'loop-again': 'shade-more $h$ $k$ (@if1 .left) (@has-inside .result) (@loop .at + @opens .result) (@closes .result) (@has-inside .ensures) (ap (λ (z : ℕ). @loop .at + z) (@opens .ensures)) (@closes .ensures) _ (@fill3 .kept .1 .0) (@fill3 .ensures)'}, macros=M)
 W = {'s': '(@Start .args .s .now)', 'g': '(@Start .args .reading)', 'o': '(@Start .args .out .now)', 'r': '(length $o$)'}
 fill('outline_fitting', {
-    'returns': '(@refused-at .ensures ∙ sym (simp (lt-ltb _ _ (@if1 .taken))), sym (simp (lt-ltb _ _ (@if1 .taken))))',
+    'returns': '(ap Stopped (@point .ensures) ∙ sym (simp (lt-ltb _ _ (@if1 .taken))), sym (simp (lt-ltb _ _ (@if1 .taken))))',
     'outline-tokens-requires': '@if1 .left',
     'same-length': '@outline-tokens .kept .1 .1 .0',
     'returns-2': '(@outline-tokens .ensures .0 ∙ sym (simp (le-ltb _ _ (@if1 .left))), @outline-tokens .ensures .1 ∙ sym (simp (le-ltb _ _ (@if1 .left))))'}, macros=W)
-
-
-def refused(call, case, told):
-    return f'let w = by-test $g$ $s$ $r$ {case} (sym ({told}) ∙ @test-source .ensures) in (@{call} .ensures ∙ sym (w .0), sym (ap (sets $o$ 0) (w .1)))'
-
-
 fill('outline', {
     'same-length': '@outline-fitting .kept .1 .1 .0',
     'returns': 'let w = by-test $g$ $s$ $r$ Sound (sym (@enum-told .given .1) ∙ @test-source .ensures) in (@outline-fitting .ensures .0 ∙ sym (w .0), @outline-fitting .ensures .1 ∙ sym (ap (sets $o$ 0) (w .1)))',
-    'returns-2': refused('refused-at', 'TooLong', '@enum-told2 .given .1'),
-    'returns-3': refused('refused-at2', '(IllFormed (@at .given .0 .0))', '@at .given .1'),
-    'returns-4': refused('refused-at3', '(Misplaced (@at2 .given .0 .0))', '@at2 .given .1')}, macros=W)
+    'returns-2': 'let w = by-test $g$ $s$ $r$ (Unsound (@refusal .given .0 .0)) (sym (@refusal .given .1) ∙ @test-source .ensures) in (sym (w .0), sym (ap (sets $o$ 0) (w .1)))'}, macros=W)

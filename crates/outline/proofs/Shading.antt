@@ -9,27 +9,26 @@ use lib.Dec.{leb, ltb}
 use lib.Seq.{drop-append-le, length-slice, length-take-le, sets, slice, slice-cons, take-length}
 use lib.ListN.{drop, drop-of-length-le, getD, length, set, take, take-append-drop}
 use borrow.Author.Tests.{le-leb, le-ltb, lt-leb, lt-ltb, ltb-false, ltb-true}
+use Rattle.families.proofs.Steps.{tokens-fin, tokens-halt, tokens-more, tokens-past, tokens-room, tokens-start}
+use Rattle.families.specs.Tokens.{tokensAt}
 use Rattle.laws.proofs.Cases.{split}
 use Rattle.laws.proofs.Sets.{sets-append}
 use Rattle.laws.specs.Bools.{both, pick, same}
 use Rattle.lexer.specs.Next.{nextAt}
 use Rattle.marks.specs.Marks.{closeMark, openMark}
 use Rattle.numbers.specs.Kinds.{hasInside}
-use Rattle.outline.specs.Outline.{answerOf, between, insideAt, insideToken, outlineOf, outlined, paint, writtenOf}
+use Rattle.outline.specs.Outline.{between, insideAt, insideToken, outlineAnswer, outlineOf, outlineWritten, outlined, paint}
 use Rattle.outline.specs.declared.Outlined.{Outlined}
 use Rattle.outline.specs.declared.Outlined.the-variants.{Stopped, Whole}
 use Rattle.readers.specs.Rules.{rulesOf}
 use Rattle.readers.specs.declared.reading.Reading.{Reading}
-use Rattle.sound.specs.Source.{sourceTest}
-use Rattle.sound.specs.declared.Tested.{Tested}
-use Rattle.sound.specs.declared.Tested.the-variants.{IllFormed, Misplaced, Sound, TooLong}
+use Rattle.source_test.specs.Source.{afterTest, sourceTest}
+use Rattle.source_test.specs.declared.Tested.{Tested}
 use Rattle.token.specs.Reads.{pointRefusal}
 use Rattle.token.specs.declared.read.Read.{Read}
 use Rattle.token.specs.declared.read.Read.the-variants.{Got, Refused}
 use Rattle.token.specs.declared.read.Refusal.{Refusal}
 use Rattle.token.specs.declared.read.Token.{Token}
-use Rattle.tokens.proofs.Steps.{tokens-fin, tokens-halt, tokens-more, tokens-past, tokens-room, tokens-start}
-use Rattle.tokens.specs.Tokens.{tokensAt}
 
 pub paint-length : (m : ℕ → Bool) (s : List ℕ) (p : ℕ) → length (paint m s p) ≡ length s
 unfolding paint
@@ -84,7 +83,7 @@ shadeFrom g s at b = sets b at (paint (insideAt (tokensAt (rulesOf g) s at)) (dr
 
 pub record Shaded (g : Reading) (s b₀ b : List ℕ) (at : ℕ) : Type 0 where
   pub buffer : shadeFrom g s at b ≡ shadeFrom g s 0 b₀
-  pub answers : answerOf (tokensAt (rulesOf g) s at) ≡ answerOf (tokensAt (rulesOf g) s 0)
+  pub answers : outlineAnswer (tokensAt (rulesOf g) s at) ≡ outlineAnswer (tokensAt (rulesOf g) s 0)
   pub in-source : at ≤ length s
   pub same : length b ≡ length b₀
   pub fits : length s ≤ length b₀
@@ -94,10 +93,10 @@ shaded-first g s b h = record { buffer = refl; answers = refl; in-source = omega
 
 module _ (g : Reading) (s b₀ b : List ℕ) (at : ℕ) (h : Shaded g s b₀ b at) where
   abbrev Done : Outlined → List ℕ → Type 0
-  Done x b′ = (x ≡ answerOf (tokensAt (rulesOf g) s 0)) × (b′ ≡ sets b₀ 0 (outlined (rulesOf g) s))
+  Done x b′ = (x ≡ outlineAnswer (tokensAt (rulesOf g) s 0)) × (b′ ≡ sets b₀ 0 (outlined (rulesOf g) s))
 
   -- what is left is copied
-  finish : (x : Outlined) (b′ : List ℕ) → b′ ≡ sets b at (paint (between false 0 0 (length s)) (slice at (length s) s) at) → answerOf (tokensAt (rulesOf g) s at) ≡ x
+  finish : (x : Outlined) (b′ : List ℕ) → b′ ≡ sets b at (paint (between false 0 0 (length s)) (slice at (length s) s) at) → outlineAnswer (tokensAt (rulesOf g) s at) ≡ x
       → ((i : ℕ) → insideAt (tokensAt (rulesOf g) s at) i ≡ false) → Done x b′
   unfolding outlined
   finish x b′ e a n = (
@@ -108,12 +107,12 @@ module _ (g : Reading) (s b₀ b : List ℕ) (at : ℕ) (h : Shaded g s b₀ b a
 
   module _ (r : Read) (er : r ≡ nextAt g s at) where
     pub shade-halt : (k : Refusal) → r ≡ Refused k → (b′ : List ℕ) → b′ ≡ sets b at (paint (between false 0 0 (length s)) (slice at (length s) s) at) → Done (Stopped k) b′
-    unfolding answerOf insideAt
+    unfolding outlineAnswer insideAt
     shade-halt k e b′ q = let t = tokens-halt g s at r er k e in finish (Stopped k) b′ q (rw t) (λ i. rw t)
 
     module _ (k : Token) (e : r ≡ Got k) where
       pub shade-fin : k .span .end ≡ at → (b′ : List ℕ) → b′ ≡ sets b at (paint (between false 0 0 (length s)) (slice at (length s) s) at) → Done Whole b′
-      unfolding answerOf insideAt
+      unfolding outlineAnswer insideAt
       shade-fin z b′ q = let t = tokens-fin g s at r er k e z in finish Whole b′ q (rw t) (λ i. rw t)
 
       module _ (z : k .span .end ≡ at → ⊥) where
@@ -125,7 +124,7 @@ module _ (g : Reading) (s b₀ b : List ℕ) (at : ℕ) (h : Shaded g s b₀ b a
 
         pub shade-more : (inside : Bool) (lo kept : ℕ) → inside ≡ hasInside (k .kind) → lo ≡ at + length (openMark (k .kind)) → kept ≡ length (closeMark (k .kind))
             → (b′ : List ℕ) → length b′ ≡ length b → b′ ≡ sets b at (paint (between inside lo kept (k .span .end)) (slice at (k .span .end) s) at) → Shaded g s b₀ b′ (k .span .end)
-        unfolding answerOf insideAt insideToken
+        unfolding outlineAnswer insideAt insideToken
         shade-more inside lo kept ei el es b′ len q =
             let end = k .span .end in
             let t = tokens-more g s at r er k e z in
@@ -156,7 +155,7 @@ module _ (b : ℕ) (inside : Bool) (i lo kept left : ℕ) where
   shade-before e h = sym (simp (e, lt-leb lo i h))
 
 pub by-test : (g : Reading) (s : List ℕ) (room : ℕ) (t : Tested) → t ≡ sourceTest s
-    → (outlineOf g s room ≡ elim t [ Sound ↦ pick (ltb room (length s)) (Stopped (pointRefusal 3 0)) (answerOf (tokensAt (rulesOf g) s 0)) | TooLong ↦ Stopped (pointRefusal 1 0) | IllFormed p ↦ Stopped (pointRefusal 2 p) | Misplaced p ↦ Stopped (pointRefusal 4 p) ])
-    × (writtenOf g s room ≡ elim t [ Sound ↦ pick (ltb room (length s)) [] (outlined (rulesOf g) s) | TooLong ↦ [] | IllFormed p ↦ [] | Misplaced p ↦ [] ])
-unfolding outlineOf writtenOf
-by-test g s room t e = (rw (← e, outlineOf), rw (← e, writtenOf))
+    → (outlineOf g s room ≡ afterTest t (pick (ltb room (length s)) (Stopped (pointRefusal 3 0)) (outlineAnswer (tokensAt (rulesOf g) s 0))) Stopped)
+    × (outlineWritten g s room ≡ afterTest t (pick (ltb room (length s)) [] (outlined (rulesOf g) s)) (λ r. []))
+unfolding outlineOf outlineWritten
+by-test g s room t e = (rw (← e, outlineOf), rw (← e, outlineWritten))

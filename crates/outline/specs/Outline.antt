@@ -4,6 +4,7 @@ use mathlib.Core.List.{List, [], _∷_}
 use mathlib.Core.Bool.{Bool, true, false}
 use lib.Dec.{leb, ltb}
 use lib.ListN.{length}
+use Rattle.families.specs.Tokens.{Tokens, fin, halt, more, tokensAt}
 use Rattle.laws.specs.Bools.{both, pick}
 use Rattle.marks.specs.Marks.{closeMark, openMark}
 use Rattle.numbers.specs.Kinds.{hasInside}
@@ -11,11 +12,9 @@ use Rattle.outline.specs.declared.Outlined.{Outlined}
 use Rattle.outline.specs.declared.Outlined.the-variants.{Stopped, Whole}
 use Rattle.readers.specs.Rules.{Rules, rulesOf}
 use Rattle.readers.specs.declared.reading.Reading.{Reading}
-use Rattle.sound.specs.Source.{sourceTest}
-use Rattle.sound.specs.declared.Tested.the-variants.{IllFormed, Misplaced, Sound, TooLong}
+use Rattle.source_test.specs.Source.{afterTest, sourceTest}
 use Rattle.token.specs.Reads.{pointRefusal}
 use Rattle.token.specs.declared.read.Token.{Token}
-use Rattle.tokens.specs.Tokens.{Tokens, fin, halt, more, tokensAt}
 
 -- a byte at i of a piece up to e, with an inside from lo on that ends `kept` bytes before e
 abbrev pub between : Bool → ℕ → ℕ → ℕ → ℕ → Bool
@@ -40,27 +39,15 @@ unfoldable pub outlined : Rules → List ℕ → List ℕ
 outlined R s = paint (insideAt (tokensAt R s 0)) s 0
 
 -- the refusal that ended the tokens is answered too
-unfoldable pub answerOf : Tokens → Outlined
-answerOf fin = Whole
-answerOf (halt r) = Stopped r
-answerOf (more k ts) = answerOf ts
+unfoldable pub outlineAnswer : Tokens → Outlined
+outlineAnswer fin = Whole
+outlineAnswer (halt r) = Stopped r
+outlineAnswer (more k ts) = outlineAnswer ts
 
 -- 1, 2, then 3 for a buffer shorter than the source
 unfoldable pub outlineOf : Reading → List ℕ → ℕ → Outlined
-outlineOf g s room =
-    elim (sourceTest s) [
-      | Sound ↦ pick (ltb room (length s)) (Stopped (pointRefusal 3 0)) (answerOf (tokensAt (rulesOf g) s 0))
-      | TooLong ↦ Stopped (pointRefusal 1 0)
-      | IllFormed p ↦ Stopped (pointRefusal 2 p)
-      | Misplaced p ↦ Stopped (pointRefusal 4 p)
-    ]
+outlineOf g s room = afterTest (sourceTest s) (pick (ltb room (length s)) (Stopped (pointRefusal 3 0)) (outlineAnswer (tokensAt (rulesOf g) s 0))) Stopped
 
 -- what is written to the front of the buffer: nothing by these three
-unfoldable pub writtenOf : Reading → List ℕ → ℕ → List ℕ
-writtenOf g s room =
-    elim (sourceTest s) [
-      | Sound ↦ pick (ltb room (length s)) [] (outlined (rulesOf g) s)
-      | TooLong ↦ []
-      | IllFormed p ↦ []
-      | Misplaced p ↦ []
-    ]
+unfoldable pub outlineWritten : Reading → List ℕ → ℕ → List ℕ
+outlineWritten g s room = afterTest (sourceTest s) (pick (ltb room (length s)) [] (outlined (rulesOf g) s)) (λ r. [])

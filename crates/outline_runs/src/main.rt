@@ -3,12 +3,12 @@
 mod sources;
 
 ghost use Prim.Native.Nat.{_+_, _≤_, _<_};
-ghost use lib.ListN.{length};
 use listing::Listed;
 use outline::Outlined;
+use places::part;
 use readers::Comments;
 use readers::Reading;
-use sound::Tested;
+use source_test::Tested;
 use token::Refusal;
 use token::Span;
 
@@ -21,20 +21,23 @@ fn plain(kind: u32) -> u32 {
     }
 }
 
-fn same_words(a: &[u32], b: &[u32]) -> bool {
+fn word_at(words: &[u32], i: usize) -> u32 {
+    if i < words.len() { words[i] } else { 0 }
+}
+
+// A token's first word is its kind.
+fn same_word(field: usize, x: u32, y: u32) -> bool {
+    match field {
+        0 => plain(x) == plain(y),
+        _ => x == y,
+    }
+}
+
+fn same_words(a: &[u32], b: &[u32], count: usize) -> bool {
     let mut i: usize = 0;
-    while i < a.len() {
-        if b.len() <= i {
+    while i < count {
+        if !same_word(i % 3, word_at(a, i), word_at(b, i)) {
             return false;
-        }
-        if i % 3 == 0 {
-            if plain(a[i]) != plain(b[i]) {
-                return false;
-            }
-        } else {
-            if a[i] != b[i] {
-                return false;
-            }
         }
         i = i + 1;
     }
@@ -54,84 +57,82 @@ fn same_refusal(a: Refusal, b: Refusal) -> bool {
     a.reached == b.reached
 }
 
-fn same_answer(a: Listed, b: Listed) -> bool {
-    match a {
-        Listed::Whole { count: n } => match b {
-            Listed::Whole { count: m } => n == m,
-            Listed::Stopped {
-                count: _,
-                refusal: _,
-            } => false,
-        },
-        Listed::Stopped {
-            count: n,
-            refusal: r,
-        } => match b {
-            Listed::Whole { count: _ } => false,
-            Listed::Stopped {
-                count: m,
-                refusal: q,
-            } => {
-                if n != m {
-                    return false;
-                }
-                same_refusal(r, q)
-            }
-        },
+// How many tokens were listed, and the refusal, by number 0 where there is none.
+struct Answer {
+    count: usize,
+    refusal: Refusal,
+}
+
+fn told(count: usize, refusal: Refusal) -> Answer {
+    Answer { count, refusal }
+}
+
+fn refusal_at(number: u32, at: usize) -> Refusal {
+    Refusal {
+        number,
+        span: Span { start: at, end: at },
+        reached: at,
     }
+}
+
+// The one place that lists, into so many words: its callers need not know all that is promised of a listing.
+fn tell(s: &[u8], reading: Reading, words: &mut [u32], room: usize) -> Answer {
+    if words.len() < room {
+        return told(0, refusal_at(0, 0));
+    }
+    match listing::list(s, reading, &mut words[..room]) {
+        Listed::Whole { count } => told(count, refusal_at(0, 0)),
+        Listed::Stopped { count, refusal } => told(count, refusal),
+    }
+}
+
+fn same_answer(a: Answer, b: Answer) -> bool {
+    if a.count != b.count {
+        return false;
+    }
+    let refusal = a.refusal;
+    same_refusal(refusal, b.refusal)
 }
 
 // Outline and source list alike, and the later words of the two stores stay alike.
 fn lists_alike(
     s: &[u8],
     reading: Reading,
+    room: usize,
     outlined: &[u8],
-    words: &mut [u32],
-    others: &mut [u32],
+    words: &mut [u32; 6144],
+    others: &mut [u32; 6144],
 ) -> bool {
-    let a = listing::list(s, reading, words);
-    let b = listing::list(outlined, reading, others);
+    let a = tell(s, reading, words, room);
+    let b = tell(outlined, reading, others, room);
     if !same_answer(a, b) {
         return false;
     }
-    same_words(words, others)
+    same_words(words, others, room)
+}
+
+// The one place that outlines, into so many bytes; the refusal, by number 0 where there is none.
+fn outlined(s: &[u8], reading: Reading, out: &mut [u8], room: usize) -> Refusal {
+    if out.len() < room {
+        return refusal_at(0, 0);
+    }
+    match outline::outline(s, reading, &mut out[..room]) {
+        Outlined::Stopped { refusal } => refusal,
+        _ => refusal_at(0, 0),
+    }
 }
 
 // Outlining the outline changes nothing. The two buffers were alike before, so they are now, also past the source.
-fn agrees(
+fn outlines_alike(
     s: &[u8],
     reading: Reading,
-    once: &mut [u8],
-    twice: &mut [u8],
-    words: &mut [u32],
-    others: &mut [u32],
+    room: usize,
+    once: &mut [u8; 4096],
+    twice: &mut [u8; 4096],
 ) -> bool {
-    let n = s.len();
-    if once.len() < n {
-        return false;
-    }
-    outline::outline(s, reading, once);
-    outline::outline(&once[..n], reading, twice);
-    if !check::same(once, twice) {
-        return false;
-    }
-    lists_alike(s, reading, &once[..n], words, others)
-}
-
-// An ill-formed source is refused with 2 at its first bad sequence, and the buffer stays as it was: like the other one.
-fn refuses(s: &[u8], reading: Reading, once: &mut [u8], twice: &[u8], at: usize) -> bool {
-    let Outlined::Stopped { refusal } = outline::outline(s, reading, once) else {
-        return false;
-    };
-    let expected = Refusal {
-        number: 2,
-        span: Span { start: at, end: at },
-        reached: at,
-    };
-    if !same_refusal(refusal, expected) {
-        return false;
-    }
-    check::same(once, twice)
+    outlined(s, reading, once, room);
+    outlined(part(once, 0, s.len()), reading, twice, room);
+    check::same(part(once, 0, room), part(twice, 0, room))
 }
 
 enum Tried {
@@ -140,35 +141,63 @@ enum Tried {
     Different,
 }
 
-// The source is the first n bytes.
+// How many bytes and words of the lent arrays the sources and their lists have.
+struct Rooms {
+    bytes: usize,
+    words: usize,
+}
+
+fn agrees(
+    s: &[u8],
+    reading: Reading,
+    rooms: Rooms,
+    once: &mut [u8; 4096],
+    twice: &mut [u8; 4096],
+    words: &mut [u32; 6144],
+    others: &mut [u32; 6144],
+) -> Tried {
+    if !outlines_alike(s, reading, rooms.bytes, once, twice) {
+        return Tried::Different;
+    }
+    let outlined = part(once, 0, s.len());
+    if !lists_alike(s, reading, rooms.words, outlined, words, others) {
+        return Tried::Different;
+    }
+    Tried::WellFormed
+}
+
+// An ill-formed source is refused with 2 at its first bad sequence, and the buffer stays as it was: like the other one.
+fn refuses(
+    s: &[u8],
+    reading: Reading,
+    once: &mut [u8; 4096],
+    twice: &[u8],
+    room: usize,
+    at: usize,
+) -> Tried {
+    if !same_refusal(outlined(s, reading, once, room), refusal_at(2, at)) {
+        return Tried::Different;
+    }
+    if !check::same(once, twice) {
+        return Tried::Different;
+    }
+    Tried::IllFormed
+}
+
 fn try_one(
     s: &[u8],
     reading: Reading,
-    n: usize,
-    once: &mut [u8],
-    twice: &mut [u8],
-    words: &mut [u32],
-    others: &mut [u32],
+    rooms: Rooms,
+    once: &mut [u8; 4096],
+    twice: &mut [u8; 4096],
+    words: &mut [u32; 6144],
+    others: &mut [u32; 6144],
 ) -> Tried {
-    if s.len() < n {
-        return Tried::Different;
-    }
-    let part = &s[..n];
-    match sound::test_source(part) {
-        Tested::Sound => {
-            if agrees(part, reading, once, twice, words, others) {
-                return Tried::WellFormed;
-            }
-            Tried::Different
+    match source_test::test_source(s) {
+        Tested::Sound => agrees(s, reading, rooms, once, twice, words, others),
+        Tested::Unsound { refusal } => {
+            refuses(s, reading, once, twice, rooms.bytes, refusal.span.start)
         }
-        Tested::IllFormed { at } => {
-            if refuses(part, reading, once, twice, at) {
-                return Tried::IllFormed;
-            }
-            Tried::Different
-        }
-        Tested::TooLong => Tried::Different,
-        Tested::Misplaced { at: _ } => Tried::Different,
     }
 }
 
@@ -207,38 +236,13 @@ fn reading_of(turn: u64) -> Reading {
     }
 }
 
-fn try_random() -> Counts {
-    let mut s = [0u8; 60];
-    let mut once = [0u8; 64];
-    let mut twice = [0u8; 64];
-    let mut words = [0u32; 192];
-    let mut others = [0u32; 192];
-    let mut counts = Counts {
-        well_formed: 0,
-        different: 0,
-    };
-    let mut seed: u64 = 1;
-    let mut turn: u64 = 0;
-    while turn < 300000 {
-        seed = sources::make(&mut s, seed);
-        let n = (turn % 60) as usize;
-        let tried = try_one(
-            &s,
-            reading_of(turn),
-            n,
-            &mut once,
-            &mut twice,
-            &mut words,
-            &mut others,
-        );
-        counts = counted(counts, tried);
-        turn = turn + 1;
-    }
-    counts
+fn front(s: &[u8; 4096], length: usize) -> &[u8] {
+    part(s, 0, length)
 }
 
-fn try_damaged(file: &[u8]) -> Counts
-    requires { ⌜ (0 < length (now file)) × (length (now file) ≤ 4096) ⌝ }
+// So many sources, made of the file or of nothing.
+fn try_all(file: &[u8], turns: u64, rooms: Rooms) -> Counts
+    requires { ⌜ turns < 1000000 ⌝ }
 {
     let mut s = [0u8; 4096];
     let mut once = [0u8; 4096];
@@ -251,14 +255,13 @@ fn try_damaged(file: &[u8]) -> Counts
     };
     let mut seed: u64 = 1;
     let mut turn: u64 = 0;
-    while turn < 40000 {
-        let damaged = sources::damage(file, &mut s, seed);
-        seed = damaged.seed;
-        let n = damaged.length;
+    while turn < turns {
+        let made = sources::source_of(file, &mut s, seed, turn);
+        seed = made.seed;
         let tried = try_one(
-            &s,
+            front(&s, made.length),
             reading_of(turn),
-            n,
+            rooms,
             &mut once,
             &mut twice,
             &mut words,
@@ -270,22 +273,41 @@ fn try_damaged(file: &[u8]) -> Counts
     counts
 }
 
-fn print(counts: Counts) {
-    io::write_all(1, b"well-formed ");
-    io::print_decimal(1, counts.well_formed);
-    io::write_all(1, b"\ndifferent ");
-    io::print_decimal(1, counts.different);
+fn print_line(text: &[u8], number: u64) {
+    io::write_all(1, text);
+    io::print_decimal(1, number);
     io::write_all(1, b"\n");
 }
 
-fn main() {
-    io::write_all(1, b"sources 300000\n");
-    print(try_random());
-    let mut file = [0u8; 4096];
-    let got = io::read_full(0, &mut file);
-    if got == 0 {
+fn print(counts: Counts) {
+    print_line(b"well-formed ", counts.well_formed);
+    print_line(b"different ", counts.different);
+}
+
+fn try_random() {
+    print_line(b"sources ", 300000);
+    let rooms = Rooms {
+        bytes: 64,
+        words: 192,
+    };
+    print(try_all(b"", 300000, rooms));
+}
+
+fn try_damaged(file: &[u8]) {
+    if file.len() == 0 {
         return;
     }
-    io::write_all(1, b"damaged 40000\n");
-    print(try_damaged(&file[..got]));
+    print_line(b"damaged ", 40000);
+    let rooms = Rooms {
+        bytes: 4096,
+        words: 6144,
+    };
+    print(try_all(file, 40000, rooms));
+}
+
+fn main() {
+    try_random();
+    let mut file = io::buffer();
+    let got = io::read_full(0, &mut file);
+    try_damaged(part(&file, 0, got));
 }

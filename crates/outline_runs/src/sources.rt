@@ -50,12 +50,12 @@ fn least(a: usize, b: usize) -> usize
     if a < b { a } else { b }
 }
 
-fn put(s: &mut [u8], i: usize, byte: u8) -> usize
-    requires { ⌜ i < length (now s) ⌝ }
-    ensures { λ r. ⌜ (i < r) × (r ≤ length (now (s .entry))) ⌝ }
+fn put(s: &mut [u8; 4096], i: usize, room: usize, byte: u8) -> usize
+    requires { ⌜ (i < room) × (room ≤ 4096) ⌝ }
+    ensures { λ r. ⌜ (i < r) × (r ≤ room) ⌝ }
 {
     if byte == 126 {
-        if 1 < s.len() - i {
+        if 1 < room - i {
             s[i] = 0xc3;
             s[i + 1] = 0xa9;
             return i + 2;
@@ -65,24 +65,20 @@ fn put(s: &mut [u8], i: usize, byte: u8) -> usize
     i + 1
 }
 
-// Characters of the table; `~` makes a scalar of two bytes where there is room.
-pub(crate) fn make(s: &mut [u8], begun: u64) -> u64 {
+// 60 bytes of characters of the table; `~` makes a scalar of two bytes where there is room.
+fn make(s: &mut [u8; 4096], begun: u64) -> u64 {
     let mut seed = begun;
     let mut i: usize = 0;
-    while i < s.len() {
+    while i < 60 {
         seed = next(seed);
         let at = (seed / 1024 % 32) as usize;
-        let byte = TRICKY[at];
-        i = put(s, i, byte);
+        i = put(s, i, 60, TRICKY[at]);
     }
     seed
 }
 
 // Bytes of the file from a place on, at most so many, as far as there is room; where they end.
-fn copy(file: &[u8], at: usize, count: usize, s: &mut [u8], begun: usize) -> usize
-    requires { ⌜ begun ≤ length (now s) ⌝ }
-    ensures { λ r. ⌜ r ≤ length (now (s .entry)) ⌝ }
-{
+fn copy(file: &[u8], at: usize, count: usize, s: &mut [u8; 4096], begun: usize) -> usize {
     let mut from = at;
     let mut end = begun;
     let mut left = count;
@@ -90,7 +86,7 @@ fn copy(file: &[u8], at: usize, count: usize, s: &mut [u8], begun: usize) -> usi
         if file.len() <= from {
             return end;
         }
-        if s.len() <= end {
+        if 4096 <= end {
             return end;
         }
         s[end] = file[from];
@@ -102,20 +98,16 @@ fn copy(file: &[u8], at: usize, count: usize, s: &mut [u8], begun: usize) -> usi
 }
 
 // Up to three characters of the table.
-fn sprinkle(s: &mut [u8], begun: usize, seed: u64) -> usize
-    requires { ⌜ begun ≤ length (now s) ⌝ }
-    ensures { λ r. ⌜ r ≤ length (now (s .entry)) ⌝ }
-{
+fn sprinkle(s: &mut [u8; 4096], begun: usize, seed: u64) -> usize {
     let mut end = begun;
     let mut from = seed / 4;
     let mut left = seed % 4;
     while left > 0 {
-        if s.len() <= end {
+        if 4096 <= end {
             return end;
         }
         let at = (from % 32) as usize;
-        let byte = TRICKY[at];
-        end = put(s, end, byte);
+        end = put(s, end, 4096, TRICKY[at]);
         from = from / 32;
         left = left - 1;
     }
@@ -140,16 +132,16 @@ fn jump(stopped: usize, seed: u64, n: usize) -> usize
     (stopped + n + below(seed / 4, 16) - least(n, 8)) % n
 }
 
-pub struct Damaged {
+// How many bytes of the room are the source, and the seed for the next one.
+pub struct Made {
     pub seed: u64,
     pub length: usize,
 }
 
 // A copy whose runs are broken one to four times by characters of the table and by a jump: what the jump passes over is deleted or overwritten,
 // what it goes back over is doubled. One copy in four is cut at the last break.
-pub(crate) fn damage(file: &[u8], s: &mut [u8], begun: u64) -> Damaged
+fn damage(file: &[u8], s: &mut [u8; 4096], begun: u64) -> Made
     requires { ⌜ (0 < length (now file)) × (length (now file) ≤ 4096) ⌝ }
-    ensures { λ r. ⌜ r .length ≤ length (now (s .entry)) ⌝ }
 {
     let n = file.len();
     let mut seed = next(begun);
@@ -170,5 +162,19 @@ pub(crate) fn damage(file: &[u8], s: &mut [u8], begun: u64) -> Damaged
     if !cut {
         end = copy(file, at, n, s, end);
     }
-    Damaged { seed, length: end }
+    Made { seed, length: end }
+}
+
+// The source of a turn: a damaged copy of the file, or where there is none the first of 60 random bytes.
+pub(crate) fn source_of(file: &[u8], s: &mut [u8; 4096], begun: u64, turn: u64) -> Made {
+    let n = file.len();
+    if 0 < n {
+        if n <= 4096 {
+            return damage(file, s, begun);
+        }
+    }
+    Made {
+        seed: make(s, begun),
+        length: (turn % 60) as usize,
+    }
 }

@@ -10,7 +10,7 @@ use borrow.Author.Tests.{eq-eqb, ne-eqb}
 use Rattle.laws.proofs.Cases.{never, split, split-le}
 use Rattle.laws.specs.Bools.{pick}
 use Rattle.laws.specs.Tables.{ordered}
-use Rattle.places.specs.Lines.{Stands, begins, columnOf, countIn, countTo, isFeed, lineOf, startOf}
+use Rattle.places.specs.Lines.{Stands, begins, columnOf, countIn, countTo, isFeed, lineNumber, startOf}
 use Rattle.places.specs.declared.line.Place.{Place}
 use Rattle.text.specs.Utf8.{first}
 
@@ -85,7 +85,7 @@ module _ (f : ℕ → Bool) (s : List ℕ) (first to : ℕ) (ordered : first ≤
 pub column-most : (s : List ℕ) (at : ℕ) → columnOf s at ≤ 1 + at
 column-most s at = omega (arith, in-most begins s (startOf s at) at (start-most s at))
 
-pub line-on : (s : List ℕ) (at to : ℕ) → at ≤ to → lineOf s at + countIn isFeed s at to ≡ lineOf s to
+pub line-on : (s : List ℕ) (at to : ℕ) → at ≤ to → lineNumber s at + countIn isFeed s at to ≡ lineNumber s to
 line-on s at to h = omega (arith, in-between isFeed s at to h)
 
 pub column-on : (s : List ℕ) (at to : ℕ) → at ≤ to → countIn isFeed s at to ≡ 0 → columnOf s at + countIn begins s at to ≡ columnOf s to

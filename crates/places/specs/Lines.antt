@@ -34,13 +34,13 @@ startOf s zero = 0
 startOf s (suc n) = pick (isFeed (getD s n 0)) (suc n) (startOf s n)
 
 -- both count from 1
-abbrev pub lineOf : List ℕ → ℕ → ℕ
-lineOf s at = 1 + countTo isFeed s at
+abbrev pub lineNumber : List ℕ → ℕ → ℕ
+lineNumber s at = 1 + countTo isFeed s at
 
 abbrev pub columnOf : List ℕ → ℕ → ℕ
 columnOf s at = 1 + countIn begins s (startOf s at) at
 
 -- a place with its line and its column
 pub record Stands (s : List ℕ) (p : Place) : Type 0 where
-  pub line : p .line ≡ lineOf s (p .at)
+  pub line : p .line ≡ lineNumber s (p .at)
   pub column : p .column ≡ columnOf s (p .at)

@@ -26,5 +26,5 @@ def lent(fn, out, told_by, of, call, answer, written):
 
 
 lent('puffsatchel_list', 'store', 'of-listed', 'ofListed', 'list', 'listOf', 'storedOf')
-lent('puffsatchel_outline', 'out', 'of-outlined', 'ofOutlined', 'outline', 'outlineOf', 'writtenOf')
-lent('puffsatchel_findings', 'store', 'of-listed', 'ofListed', 'findings', 'findingsOf', 'recordsOf')
+lent('puffsatchel_outline', 'out', 'of-outlined', 'ofOutlined', 'outline', 'outlineOf', 'outlineWritten')
+lent('puffsatchel_findings', 'store', 'of-listed', 'ofListed', 'findings', 'findingsOf', 'storedFindings')

@@ -6,11 +6,11 @@ use lib.ListN.{length}
 use Rattle.answers.specs.Readings.{readingOf, tellsBy, writesBy}
 use Rattle.answers.specs.Told.{ofListed, ofOutlined, ofRead, ofTested}
 use Rattle.answers.specs.declared.Told.{Told}
-use Rattle.findings.specs.Findings.{findingsOf, recordsOf}
+use Rattle.findings.specs.Findings.{findingsOf, storedFindings}
 use Rattle.lexer.specs.Next.{nextAt, readAt}
 use Rattle.listing.specs.Listing.{listOf, storedOf}
-use Rattle.outline.specs.Outline.{outlineOf, writtenOf}
-use Rattle.sound.specs.Source.{sourceTest}
+use Rattle.outline.specs.Outline.{outlineOf, outlineWritten}
+use Rattle.source_test.specs.Source.{sourceTest}
 
 -- goes up with every change of a call, of a number or of what is promised
 abbrev pub version : ℕ
@@ -36,10 +36,10 @@ abbrev pub outlineTells : ℕ → List ℕ → List ℕ → Told
 outlineTells n s out = tellsBy (readingOf n) (λ g. ofOutlined (outlineOf g s (length out)))
 
 abbrev pub outlineLeaves : ℕ → List ℕ → List ℕ → List ℕ
-outlineLeaves n s out = sets out 0 (writesBy (readingOf n) (λ g. writtenOf g s (length out)))
+outlineLeaves n s out = sets out 0 (writesBy (readingOf n) (λ g. outlineWritten g s (length out)))
 
 abbrev pub findingsTells : ℕ → List ℕ → List ℕ → Told
 findingsTells n s store = tellsBy (readingOf n) (λ g. ofListed (findingsOf g s (length store)))
 
 abbrev pub findingsLeaves : ℕ → List ℕ → List ℕ → List ℕ
-findingsLeaves n s store = sets store 0 (writesBy (readingOf n) (λ g. recordsOf g s (length store)))
+findingsLeaves n s store = sets store 0 (writesBy (readingOf n) (λ g. storedFindings g s (length store)))

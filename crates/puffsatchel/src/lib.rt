@@ -21,7 +21,7 @@ pub extern "C" fn puffsatchel_version() -> u32
 pub extern "C" fn puffsatchel_test(source: &[u8], answer: &mut [usize; 5]) -> u32
     ensures { λ r. ⌜ (r ≡ testTells (now (source .entry)) .number) × (now (answer .exit) ≡ testTells (now (source .entry)) .words) ⌝ }
 {
-    tell(answers::of_tested(sound::test_source(source)), answer)
+    tell(answers::of_tested(source_test::test_source(source)), answer)
 }
 
 #[no_mangle]

@@ -7,8 +7,9 @@ use lib.ListN.{length}
 use Rattle.answers.specs.Told.{formOf, formed, ofUnescaped, toldAs}
 use Rattle.answers.specs.declared.form.Named.{Named}
 use Rattle.answers.specs.declared.form.Named.the-variants.{NoForm, OneForm}
-use Rattle.unescape.specs.Bodies.{unescapeOf}
 use Rattle.items.specs.declared.Form.{Form}
+use Rattle.laws.specs.Bools.{same}
+use Rattle.unescape.specs.Bodies.{unescapeOf}
 
 module _ (r n : ℕ) (s o w l : List ℕ) where
   -- what a body's call promises, at the form that its number names

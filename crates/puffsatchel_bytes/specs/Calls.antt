@@ -5,8 +5,8 @@ use lib.Seq.{sets}
 use lib.ListN.{length}
 use Rattle.answers.specs.Told.{formOf, formed, ofStored, ofUnescaped}
 use Rattle.answers.specs.declared.Told.{Told}
-use Rattle.stored_reader.specs.Reader.{readBy, readOf}
-use Rattle.stored_writer.specs.Writer.{writeOf, writtenBy}
+use Rattle.storage.specs.Reader.{readBy, readOf}
+use Rattle.storage.specs.Writer.{writeOf, writtenBy}
 
 abbrev pub unescapeTells : ℕ → List ℕ → List ℕ → Told
 unescapeTells form s out = ofUnescaped (formed (formOf form) s (length out) .answer)

@@ -7,7 +7,8 @@ use native.Mathlib.Omega.{arith}
 use lib.ListN.{getD}
 use borrow.Author.Tests.{eq-eqb, ne-eqb}
 use Rattle.readers.proofs.Scans.{scan-behind, scan-end, scan-last, scan-on}
-use Rattle.readers.specs.Readers.{Closing, commentEnd, commentStep, endedOf, passOne, skips, starred, untested}
+use Rattle.readers.specs.Passing.{passOne, untested}
+use Rattle.readers.specs.Readers.{Closing, afterStar, commentEnd, commentStep, endedOf, skips}
 use Rattle.readers.specs.Rules.{skipOf}
 use Rattle.readers.specs.Scan.{How, scan, stopAt}
 use Rattle.readers.specs.declared.comments.Ended.{Ended}
@@ -46,7 +47,7 @@ module _ (k : ℕ) (s : List ℕ) (at : ℕ) where
       (ends-last (skips k) n at (rest s n) n ∙ ap endedOf (scan-on commentStep (skips (suc k)) at s at v n t (skips k) refl)))
 
 -- after a star, all but a slash goes as it goes elsewhere
-bare-step : (v : ℕ) (cs : List ℕ) → (v ≡ 47 → ⊥) → commentStep (skips 0) v cs ≡ commentStep starred v cs
+bare-step : (v : ℕ) (cs : List ℕ) → (v ≡ 47 → ⊥) → commentStep (skips 0) v cs ≡ commentStep afterStar v cs
 unfolding commentStep
 bare-step v cs h = rw (ne-eqb v 47 h, commentStep)
 
@@ -59,20 +60,20 @@ module _ (s : List ℕ) (p : ℕ) where
       ends-last (skips 0) n p (rest s n) n ∙ ap endedOf (scan-on commentStep (skips 0) p s p v n t (skips 0) (rw (ne-eqb v 42 other, commentStep)))
 
   module _ (h : getD s p 0 ≡ 42) where
-    comment-star : endedOf (scan commentStep width starred p (rest s (p + 1)) (p + 1)) ≡ endsFrom s p
+    comment-star : endedOf (scan commentStep width afterStar p (rest s (p + 1)) (p + 1)) ≡ endsFrom s p
     unfolding commentEnd commentStep
-    comment-star = ap endedOf (scan-on commentStep (skips 0) p s p _ _ (byte-step s p (omega arith) (omega arith)) starred (rw (eq-eqb _ 42 h, commentStep)))
+    comment-star = ap endedOf (scan-on commentStep (skips 0) p s p _ _ (byte-step s p (omega arith) (omega arith)) afterStar (rw (eq-eqb _ 42 h, commentStep)))
 
     pub comment-close : getD s (p + 1) 0 ≡ 47 → record { end = p + 1 + 1; closed = true } ≡ endsFrom s p
     unfolding commentStep
     comment-close e =
-        ap endedOf (scan-behind commentStep starred p s (p + 1) _ _ (byte-step s (p + 1) (omega arith) (omega arith)) starred (rw (eq-eqb _ 47 e, commentStep))) ∙ comment-star
+        ap endedOf (scan-behind commentStep afterStar p s (p + 1) _ _ (byte-step s (p + 1) (omega arith) (omega arith)) afterStar (rw (eq-eqb _ 47 e, commentStep))) ∙ comment-star
 
     -- a star that no slash follows is as good as none
     pub comment-bare : (getD s (p + 1) 0 ≡ 47 → ⊥) → endsFrom s (p + 1) ≡ endsFrom s p
     unfolding commentEnd scan
     comment-bare e =
-        by-step s (p + 1) (λ z. sym (comment-none 0 s (p + 1) z) ∙ ap endedOf (scan-end commentStep starred p s (p + 1) z) ∙ comment-star)
+        by-step s (p + 1) (λ z. sym (comment-none 0 s (p + 1) z) ∙ ap endedOf (scan-end commentStep afterStar p s (p + 1) z) ∙ comment-star)
         (λ w m u.
         let other : w ≡ 47 → ⊥ = λ f. e (sym (step-byte s (p + 1) w m u (omega arith) .0) ∙ f) in
         ends-last (skips 0) (p + 1) p (rest s (p + 1)) (p + 1) ∙ rw (u .here) (rw (bare-step w (rest s m) other, scan) refl) ∙ comment-star)

@@ -8,7 +8,7 @@ use native.Mathlib.Omega.{arith}
 use lib.ListN.{length}
 use Rattle.classes.specs.Classes.{isWhiteSpace}
 use Rattle.readers.proofs.Scans.{by-act}
-use Rattle.readers.specs.Readers.{Bytes, Chars, Quoted, body, broken, byteAnswer, byteOf, byteStep, charAnswer, charOf, charStep, commentEnd, commentOf, commentStep, control, escape, fresh, inLine, integral, letters, lineOf, numberLitOf, numberStep, run, runStep, shut, skips, slash, slashed, strAnswer, strOf, strStep, text, whiteOf, wordOf}
+use Rattle.readers.specs.Readers.{Bytes, Chars, Quoted, backslashed, body, broken, byteAnswer, byteOf, byteStep, charAnswer, charOf, charStep, commentEnd, commentOf, commentStep, control, escape, fresh, inLine, integral, letters, lineOf, numberLitOf, numberStep, run, runStep, shut, skips, slashed, strAnswer, strOf, strStep, text, whiteOf, wordOf}
 use Rattle.readers.specs.Rules.{Rules, rulesOf}
 use Rattle.readers.specs.Scan.{Act, How, ended, full, scan, short}
 use Rattle.readers.specs.declared.reading.Reading.{Reading}
@@ -20,7 +20,7 @@ use Rattle.token.specs.declared.kind.Kind.{Kind}
 -- r is the place of one of the scalars cs, the first of which stands at p, or the place after the last
 abbrev pub Lands : Rules → List ℕ → ℕ → ℕ → Type 0
 Lands R [] p r = p ≡ r
-Lands R (v ∷ cs) p r = (p ≡ r) ⊎ Lands R cs (p + R .wide v) r
+Lands R (v ∷ cs) p r = (p ≡ r) ⊎ Lands R cs (p + R .stride v) r
 
 module _ (R : Rules) where
   pub lands-here : (cs : List ℕ) (p : ℕ) → Lands R cs p p
@@ -30,52 +30,52 @@ module _ (R : Rules) where
   pub lands-le : (cs : List ℕ) (p r : ℕ) → Lands R cs p r → p ≤ r
   lands-le [] p r e = omega arith
   lands-le (v ∷ cs) p r (inl e) = omega arith
-  lands-le (v ∷ cs) p r (inr h) = let k = lands-le cs (p + R .wide v) r h in omega arith
+  lands-le (v ∷ cs) p r (inr h) = let k = lands-le cs (p + R .stride v) r h in omega arith
 
-  pub scan-lands : {S : Type 0} (step : S → ℕ → List ℕ → Act S) (s : S) (l : ℕ) (cs : List ℕ) (p : ℕ) → Lands R cs p (scan step (R .wide) s l cs p .place)
+  pub scan-lands : {S : Type 0} (step : S → ℕ → List ℕ → Act S) (s : S) (l : ℕ) (cs : List ℕ) (p : ℕ) → Lands R cs p (scan step (R .stride) s l cs p .place)
   unfolding scan
   scan-lands step s l [] p = refl
   scan-lands step s l (v ∷ cs) p =
-      by-act (step s v cs) (λ s′ e. rw (e, scan) (inr (scan-lands step s′ p cs (p + R .wide v)))) (λ s′ e. rw (e, scan) (inl refl))
-      (λ s′ e. rw (e, scan) (inr (lands-here cs (p + R .wide v))))
+      by-act (step s v cs) (λ s′ e. rw (e, scan) (inr (scan-lands step s′ p cs (p + R .stride v)))) (λ s′ e. rw (e, scan) (inl refl))
+      (λ s′ e. rw (e, scan) (inr (lands-here cs (p + R .stride v))))
 
-  pub run-lands : (f : ℕ → Bool) (cs : List ℕ) (p : ℕ) → Lands R cs p (run (R .wide) f cs p)
+  pub run-lands : (f : ℕ → Bool) (cs : List ℕ) (p : ℕ) → Lands R cs p (run (R .stride) f cs p)
   unfolding run
   run-lands f cs p = scan-lands (runStep f) tt p cs p
 
   module _ (a : ℕ) (cs : List ℕ) (p : ℕ) where
-    pub white-lands : Lands R cs p (reachedOf (whiteOf (R .wide) a cs p))
+    pub white-lands : Lands R cs p (reachedOf (whiteOf (R .stride) a cs p))
     unfolding whiteOf
     white-lands = run-lands isWhiteSpace cs p
 
-    pub line-lands : (k : Kind) → Lands R cs p (reachedOf (lineOf (R .wide) k a cs p))
+    pub line-lands : (k : Kind) → Lands R cs p (reachedOf (lineOf (R .stride) k a cs p))
     unfolding lineOf
     line-lands k = run-lands inLine cs p
 
-    pub comment-lands : Lands R cs p (reachedOf (commentOf (R .wide) (R .skip) a cs p))
+    pub comment-lands : Lands R cs p (reachedOf (commentOf (R .stride) (R .skip) a cs p))
     unfolding commentOf commentEnd
     comment-lands = scan-lands commentStep (skips (R .skip)) p cs p
 
-    pub word-lands : (v : ℕ) → Lands R cs p (reachedOf (wordOf (R .wide) (R .continue) v a cs p))
+    pub word-lands : (v : ℕ) → Lands R cs p (reachedOf (wordOf (R .stride) (R .continue) v a cs p))
     unfolding wordOf
     word-lands v = run-lands (R .continue) cs p
 
-    pub number-lands : Lands R cs p (reachedOf (numberLitOf (R .wide) a cs p))
+    pub number-lands : Lands R cs p (reachedOf (numberLitOf (R .stride) a cs p))
     unfolding numberLitOf
     number-lands = scan-lands numberStep integral p cs p
 
     -- what these three answer reaches the place of the stop, whatever the answer is
     pub byte-reached : (st : Bytes) (l q : ℕ) (h : How) → reachedOf (byteAnswer a st l q h) ≡ q
     byte-reached fresh l q h = refl
-    byte-reached slash l q h = refl
+    byte-reached backslashed l q h = refl
     byte-reached control l q h = refl
     byte-reached body l q full = refl
     byte-reached body l q ended = refl
     byte-reached body l q short = refl
 
-    pub byte-lands : Lands R cs p (reachedOf (byteOf (R .wide) a cs p))
+    pub byte-lands : Lands R cs p (reachedOf (byteOf (R .stride) a cs p))
     unfolding byteOf
-    byte-lands = let o = scan byteStep (R .wide) fresh p cs p in rw (byte-reached (o .state) (o .last) (o .place) (o .how)) (scan-lands byteStep fresh p cs p)
+    byte-lands = let o = scan byteStep (R .stride) fresh p cs p in rw (byte-reached (o .state) (o .last) (o .place) (o .how)) (scan-lands byteStep fresh p cs p)
 
     pub str-reached : (b : Bool) (st : Quoted) (l q : ℕ) (h : How) → reachedOf (strAnswer b a st l q h) ≡ q
     str-reached b (slashed e) l q h = refl
@@ -83,9 +83,9 @@ module _ (R : Rules) where
     str-reached b (text e) l q ended = refl
     str-reached b (text e) l q short = refl
 
-    pub str-lands : (b : Bool) → Lands R cs p (reachedOf (strOf (R .wide) b a cs p))
+    pub str-lands : (b : Bool) → Lands R cs p (reachedOf (strOf (R .stride) b a cs p))
     unfolding strOf
-    str-lands b = let o = scan strStep (R .wide) (text false) p cs p in rw (str-reached b (o .state) (o .last) (o .place) (o .how)) (scan-lands strStep (text false) p cs p)
+    str-lands b = let o = scan strStep (R .stride) (text false) p cs p in rw (str-reached b (o .state) (o .last) (o .place) (o .how)) (scan-lands strStep (text false) p cs p)
 
     pub char-reached : (st : Chars) (l q : ℕ) → reachedOf (charAnswer a st l q) ≡ q
     char-reached escape l q = refl
@@ -97,9 +97,9 @@ module _ (R : Rules) where
     char-reached (letters false true) l q = refl
     char-reached (letters false false) l q = refl
 
-    pub char-lands : Lands R cs p (reachedOf (charOf (R .wide) a cs p))
+    pub char-lands : Lands R cs p (reachedOf (charOf (R .stride) a cs p))
     unfolding charOf
-    char-lands = let o = scan charStep (R .wide) (letters true false) p cs p in rw (char-reached (o .state) (o .last) (o .place)) (scan-lands charStep (letters true false) p cs p)
+    char-lands = let o = scan charStep (R .stride) (letters true false) p cs p in rw (char-reached (o .state) (o .last) (o .place)) (scan-lands charStep (letters true false) p cs p)
 
 -- at a place of a source
 pub lands-room : (g : Reading) (s cs : List ℕ) (p r : ℕ) → cs ≡ rest s p → p ≤ length s → Lands (rulesOf g) cs p r → r ≤ length s

@@ -2,7 +2,7 @@
 use Prim.Native.Nat.{ℕ}
 use mathlib.Core.Path.{_≡_, refl, sym, ap, _∙_}
 use mathlib.Core.List.{List, [], _∷_}
-use Rattle.readers.specs.Scan.{Act, How, Stop, Wide, before, behind, ended, full, on, scan, short, stopAt}
+use Rattle.readers.specs.Scan.{Act, How, Stop, Stride, before, behind, ended, full, on, scan, short, stopAt}
 use Rattle.text.proofs.Decode.{Step}
 use Rattle.text.specs.Utf8.{rest, width}
 
@@ -54,7 +54,7 @@ module _ {S : Type 0} (step : S → ℕ → List ℕ → Act S) (st : S) (s : Li
     goes-cut st′ e z = scan-end step st′ p s n z ∙ scan-on step st (g .0) s p v n t st′ e ∙ g .1
 
 -- the last place is of no account to where and why a scan stops
-module _ {S : Type 0} {A : Type 0} (step : S → ℕ → List ℕ → Act S) (w : Wide) (f : S → ℕ → How → A) where
+module _ {S : Type 0} {A : Type 0} (step : S → ℕ → List ℕ → Act S) (w : Stride) (f : S → ℕ → How → A) where
   pub scan-last : (st : S) (l l′ : ℕ) (cs : List ℕ) (p : ℕ) → let o = scan step w st l cs p in let o′ = scan step w st l′ cs p in f (o .state) (o .place) (o .how) ≡ f (o′ .state) (o′ .place) (o′ .how)
   unfolding scan
   scan-last st l l′ [] p = refl

@@ -7,7 +7,7 @@ use native.Mathlib.Omega.{arith}
 use borrow.Author.Tests.{eq-eqb, ne-eqb}
 use Rattle.classes.specs.Classes.{isControl}
 use Rattle.laws.specs.Bools.{both}
-use Rattle.readers.specs.Readers.{Digits, beginsDigit, body, broken, byteStep, charAnswer, charStep, control, escape, fractional, inLabel, inNumber, integral, letters, numberStep, runStep, shut, slash, slashed, strStep, text}
+use Rattle.readers.specs.Readers.{Digits, backslashed, beginsDigit, body, broken, byteStep, charAnswer, charStep, control, escape, fractional, inLabel, inNumber, integral, letters, numberStep, runStep, shut, slashed, strStep, text}
 use Rattle.readers.specs.Scan.{before, behind, on}
 
 pub run-yes : (f : ℕ → Bool) (v : ℕ) (cs : List ℕ) → f v ≡ true → runStep f tt v cs ≡ on tt
@@ -17,7 +17,7 @@ pub run-no : (f : ℕ → Bool) (v : ℕ) (cs : List ℕ) → f v ≡ false → 
 run-no f v cs h = rw h
 
 module _ (v : ℕ) (cs : List ℕ) where
-  pub byte-slash : v ≡ 92 → byteStep body v cs ≡ on slash
+  pub byte-slash : v ≡ 92 → byteStep body v cs ≡ on backslashed
   unfolding byteStep
   byte-slash h = rw (eq-eqb v 92 h, byteStep)
 

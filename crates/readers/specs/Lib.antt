@@ -1,3 +1,4 @@
 pub mod Rules
 pub mod Scan
 pub mod Readers
+pub mod Passing

@@ -1,18 +1,16 @@
 -- Document 01, "How one token is read" with "Refusal numbers and places", rule by rule in its order. A reader takes the scalars after
 -- a token's opening, their place, and the place a where the token started.
-use Prim.Native.Nat.{ℕ, zero, suc, _+_}
+use Prim.Native.Nat.{ℕ, zero, suc}
 use mathlib.Core.List.{List, [], _∷_}
 use mathlib.Core.Bool.{Bool, true, false, not}
 use lib.Dec.{eqb}
 use Rattle.classes.specs.Classes.{isControl, isWhiteSpace}
-use Rattle.digits.specs.Digits.{isDigit}
+use Rattle.classes.specs.Digits.{isDigit}
 use Rattle.laws.specs.Bools.{both, either, pick, within}
 use Rattle.readers.specs.Rules.{Rules}
-use Rattle.readers.specs.Scan.{Act, How, Stop, Wide, before, behind, ended, full, on, scan, short}
+use Rattle.readers.specs.Scan.{Act, How, Stop, Stride, before, behind, ended, full, on, scan, short}
 use Rattle.readers.specs.declared.comments.Ended.{Ended}
-use Rattle.readers.specs.declared.reading.Comments.{Comments}
-use Rattle.readers.specs.declared.reading.Comments.the-variants.{Crate, First}
-use Rattle.text.specs.Utf8.{rest, width}
+use Rattle.text.specs.Characters.{backslash, dot, doubleQuote, lineFeed, quote, slash, star, underscore}
 use Rattle.token.specs.Reads.{gotOf, refusedOf}
 use Rattle.token.specs.declared.kind.Kind.{Kind}
 use Rattle.token.specs.declared.kind.Kind.the-variants.{Byte, ByteStr, Char, Ident, Label, MultilineComment, Number, Str, Underscore, Whitespace}
@@ -22,38 +20,29 @@ use Rattle.token.specs.declared.read.Read.{Read}
 abbrev pub runStep : (ℕ → Bool) → Unit {0} → ℕ → List ℕ → Act (Unit {0})
 runStep f s v cs = pick (f v) (on tt) (before tt)
 
-unfoldable pub run : Wide → (ℕ → Bool) → List ℕ → ℕ → ℕ
+unfoldable pub run : Stride → (ℕ → Bool) → List ℕ → ℕ → ℕ
 run w f cs p = scan (runStep f) w tt p cs p .place
 
 -- white space
-unfoldable pub whiteOf : Wide → ℕ → List ℕ → ℕ → Read
+unfoldable pub whiteOf : Stride → ℕ → List ℕ → ℕ → Read
 whiteOf w a cs p = gotOf Whitespace a (run w isWhiteSpace cs p)
 
 -- a line comment and the shebang stop before LF
 abbrev pub inLine : ℕ → Bool
-inLine v = not (eqb v 10)
+inLine v = not (eqb v lineFeed)
 
-unfoldable pub lineOf : Wide → Kind → ℕ → List ℕ → ℕ → Read
+unfoldable pub lineOf : Stride → Kind → ℕ → List ℕ → ℕ → Read
 lineOf w k a cs p = gotOf k a (run w inLine cs p)
-
--- the place after the first of the scalars, and the place after those that a comment passes over
-abbrev pub passOne : Wide → List ℕ → ℕ → ℕ
-passOne w [] p = p
-passOne w (v ∷ cs) p = p + w v
-
-abbrev pub untested : Comments → List ℕ → ℕ → ℕ
-untested Crate s at = let q = passOne width (rest s at) at in passOne width (rest s q) q
-untested First s at = at
 
 -- a comment: so many scalars are skipped untested, and then the first `*/` closes; what nothing closes is unclosed, and goes to the end
 pub data Closing : Type 0 where
   skips : ℕ → Closing
-  starred : Closing
+  afterStar : Closing
 
 unfoldable pub commentStep : Closing → ℕ → List ℕ → Act Closing
 commentStep (skips (suc k)) v cs = on (skips k)
-commentStep (skips zero) v cs = pick (eqb v 42) (on starred) (on (skips 0))
-commentStep starred v cs = pick (eqb v 47) (behind starred) (pick (eqb v 42) (on starred) (on (skips 0)))
+commentStep (skips zero) v cs = pick (eqb v star) (on afterStar) (on (skips 0))
+commentStep afterStar v cs = pick (eqb v slash) (behind afterStar) (pick (eqb v star) (on afterStar) (on (skips 0)))
 
 abbrev pub closedBy : How → Bool
 closedBy ended = false
@@ -64,35 +53,35 @@ abbrev pub endedOf : Stop Closing → Ended
 endedOf o = record { end = o .place; closed = closedBy (o .how) }
 
 -- where it ends, and whether a close ended it; k scalars are skipped
-unfoldable pub commentEnd : Wide → ℕ → List ℕ → ℕ → Ended
+unfoldable pub commentEnd : Stride → ℕ → List ℕ → ℕ → Ended
 commentEnd w k cs p = endedOf (scan commentStep w (skips k) p cs p)
 
-unfoldable pub commentOf : Wide → ℕ → ℕ → List ℕ → ℕ → Read
+unfoldable pub commentOf : Stride → ℕ → ℕ → List ℕ → ℕ → Read
 commentOf w k a cs p = let e = commentEnd w k cs p in gotOf (MultilineComment (e .closed)) a (e .end)
 
 -- a byte: its first scalar is not tested; after it a quote closes, and a backslash takes the scalar after it along
 pub data Bytes : Type 0 where
   fresh : Bytes
   body : Bytes
-  slash : Bytes
+  backslashed : Bytes
   control : Bytes
 
 unfoldable pub byteStep : Bytes → ℕ → List ℕ → Act Bytes
 byteStep fresh v cs = on body
-byteStep body v cs = pick (eqb v 92) (on slash) (pick (eqb v 39) (behind body) (pick (isControl v) (behind control) (on body)))
-byteStep slash v cs = on body
+byteStep body v cs = pick (eqb v backslash) (on backslashed) (pick (eqb v quote) (behind body) (pick (isControl v) (behind control) (on body)))
+byteStep backslashed v cs = on body
 byteStep control v cs = behind control
 
 -- 10 after a backslash, 15 at a control, 14 at the end
 abbrev pub byteAnswer : ℕ → Bytes → ℕ → ℕ → How → Read
-byteAnswer a slash l p h = refusedOf 10 l p p
+byteAnswer a backslashed l p h = refusedOf 10 l p p
 byteAnswer a control l p h = refusedOf 15 a p p
 byteAnswer a fresh l p h = refusedOf 14 a p p
 byteAnswer a body l p full = gotOf Byte a p
 byteAnswer a body l p ended = refusedOf 14 a p p
 byteAnswer a body l p short = refusedOf 14 a p p
 
-unfoldable pub byteOf : Wide → ℕ → List ℕ → ℕ → Read
+unfoldable pub byteOf : Stride → ℕ → List ℕ → ℕ → Read
 byteOf w a cs p = let o = scan byteStep w fresh p cs p in byteAnswer a (o .state) (o .last) (o .place) (o .how)
 
 -- a string or byte string: a quote closes, a backslash takes the scalar after it along and sets the escape mark
@@ -101,7 +90,7 @@ pub data Quoted : Type 0 where
   slashed : Bool → Quoted
 
 unfoldable pub strStep : Quoted → ℕ → List ℕ → Act Quoted
-strStep (text e) v cs = pick (eqb v 34) (behind (text e)) (pick (eqb v 92) (on (slashed e)) (on (text e)))
+strStep (text e) v cs = pick (eqb v doubleQuote) (behind (text e)) (pick (eqb v backslash) (on (slashed e)) (on (text e)))
 strStep (slashed e) v cs = on (text true)
 
 -- the kind and refusal of a string, and of a byte string
@@ -120,19 +109,19 @@ strAnswer b a (text e) l p full = gotOf (strKind b e) a p
 strAnswer b a (text e) l p ended = refusedOf (strNumber b) a p p
 strAnswer b a (text e) l p short = refusedOf (strNumber b) a p p
 
-unfoldable pub strOf : Wide → Bool → ℕ → List ℕ → ℕ → Read
+unfoldable pub strOf : Stride → Bool → ℕ → List ℕ → ℕ → Read
 strOf w b a cs p = let o = scan strStep w (text false) p cs p in strAnswer b a (o .state) (o .last) (o .place) (o .how)
 
 -- a word: its first letter was read already; a lone `_` is a kind of its own
 abbrev pub startsWord : Rules → ℕ → Bool
-startsWord R v = either (eqb v 95) (R .start v)
+startsWord R v = either (eqb v underscore) (R .start v)
 
-unfoldable pub wordOf : Wide → (ℕ → Bool) → ℕ → ℕ → List ℕ → ℕ → Read
-wordOf w more v a cs p = let e = run w more cs p in gotOf (pick (both (eqb v 95) (eqb e p)) Underscore Ident) a e
+unfoldable pub wordOf : Stride → (ℕ → Bool) → ℕ → ℕ → List ℕ → ℕ → Read
+wordOf w more v a cs p = let e = run w more cs p in gotOf (pick (both (eqb v underscore) (eqb e p)) Underscore Ident) a e
 
 -- a number: ASCII letters, digits and `_`; once, a `.` with a digit right after it belongs to it too
 abbrev pub inNumber : ℕ → Bool
-inNumber v = either (isDigit v) (either (within 65 90 v) (either (within 97 122 v) (eqb v 95)))
+inNumber v = either (isDigit v) (either (within 65 90 v) (either (within 97 122 v) (eqb v underscore)))
 
 abbrev pub beginsDigit : List ℕ → Bool
 beginsDigit [] = false
@@ -143,10 +132,10 @@ pub data Digits : Type 0 where
   fractional : Digits
 
 unfoldable pub numberStep : Digits → ℕ → List ℕ → Act Digits
-numberStep integral v cs = pick (inNumber v) (on integral) (pick (both (eqb v 46) (beginsDigit cs)) (on fractional) (before integral))
+numberStep integral v cs = pick (inNumber v) (on integral) (pick (both (eqb v dot) (beginsDigit cs)) (on fractional) (before integral))
 numberStep fractional v cs = pick (inNumber v) (on fractional) (before fractional)
 
-unfoldable pub numberLitOf : Wide → ℕ → List ℕ → ℕ → Read
+unfoldable pub numberLitOf : Stride → ℕ → List ℕ → ℕ → Read
 numberLitOf w a cs p = gotOf Number a (scan numberStep w integral p cs p .place)
 
 -- a char or a label: the first flag says that it may still be a label, the second that something was counted
@@ -161,8 +150,8 @@ inLabel v = either (isDigit v) (within 97 122 v)
 
 unfoldable pub charStep : Chars → ℕ → List ℕ → Act Chars
 charStep (letters l n) v cs =
-    pick (eqb v 92) (on escape)
-    (pick (eqb v 39) (behind (shut n))
+    pick (eqb v backslash) (on escape)
+    (pick (eqb v quote) (behind (shut n))
     (pick (inLabel v) (on (letters l true))
     (pick (isControl v) (before broken)
     (pick (both l n) (before (letters l n)) (on (letters false true))))))
@@ -181,5 +170,5 @@ charAnswer a (letters true false) l p = refusedOf 13 a p p
 charAnswer a (letters false true) l p = gotOf Char a p
 charAnswer a (letters true true) l p = gotOf Label a p
 
-unfoldable pub charOf : Wide → ℕ → List ℕ → ℕ → Read
+unfoldable pub charOf : Stride → ℕ → List ℕ → ℕ → Read
 charOf w a cs p = let o = scan charStep w (letters true false) p cs p in charAnswer a (o .state) (o .last) (o .place)

@@ -9,7 +9,7 @@ use Rattle.text.specs.Utf8.{width}
 
 pub record Rules : Type 0 where
   -- how far a scalar moves the place
-  pub wide : ℕ → ℕ
+  pub stride : ℕ → ℕ
   -- how many scalars are passed over after the opening of a comment
   pub skip : ℕ
   -- word letters: the first one, and those after it
@@ -23,7 +23,7 @@ skipOf First = 0
 
 -- byte places, XID up to U+024F, and what the caller names
 abbrev pub rulesOf : Reading → Rules
-rulesOf g = record { wide = width; skip = skipOf (g .comments); start = isXidStart; continue = isXidContinue }
+rulesOf g = record { stride = width; skip = skipOf (g .comments); start = isXidStart; continue = isXidContinue }
 
 -- the two readings: rune's, and the one in which the first close ends a comment
 abbrev pub rune : Reading

@@ -3,8 +3,8 @@ use Prim.Native.Nat.{ℕ, _+_}
 use mathlib.Core.List.{List, [], _∷_}
 
 -- how far a scalar moves the place
-abbrev pub Wide : Type 0
-Wide = ℕ → ℕ
+abbrev pub Stride : Type 0
+Stride = ℕ → ℕ
 
 -- what a scalar does: the scan goes on, stops before it, or stops after it; each with the state then
 pub data Act (S : Type 0) : Type 0 where
@@ -30,7 +30,7 @@ module _ {S : Type 0} where
   stopAt s l p h = record { state = s; last = l; place = p; how = h }
 
   -- a step sees the state, the scalar, and the scalars after it
-  unfoldable pub scan : (S → ℕ → List ℕ → Act S) → Wide → S → ℕ → List ℕ → ℕ → Stop S
+  unfoldable pub scan : (S → ℕ → List ℕ → Act S) → Stride → S → ℕ → List ℕ → ℕ → Stop S
   scan step w s l [] p = stopAt s l p ended
   scan step w s l (v ∷ cs) p =
       elim (step s v cs) [

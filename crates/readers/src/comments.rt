@@ -1,11 +1,13 @@
 // White space, lines and comments.
 use crate::reading::Comments;
 use text::Scalar;
+use text::character::LINE_FEED;
 use token::Kind;
 use token::Read;
 ghost use mathlib.Core.Path.{_≡_};
 ghost use Rattle.classes.specs.Classes.{isWhiteSpace};
-ghost use Rattle.readers.specs.Readers.{commentEnd, commentOf, inLine, passOne, run, untested};
+ghost use Rattle.readers.specs.Passing.{passOne, untested};
+ghost use Rattle.readers.specs.Readers.{commentEnd, commentOf, inLine, run};
 ghost use Rattle.readers.specs.Rules.{skipOf};
 ghost use Rattle.text.specs.Utf8.{rest, width};
 
@@ -34,7 +36,7 @@ pub fn consume_line(s: &[u8], at: usize) -> usize
         let Scalar::One { value, next } = text::scalar_at(s, p) else {
             return p;
         };
-        if value == 10 {
+        if value == LINE_FEED {
             return p;
         }
         p = next;
@@ -73,9 +75,9 @@ fn comment_end(s: &[u8], at: usize) -> Ended
 {
     let mut p = at;
     loop {
-        if text::byte_at(s, p) == 42 {
+        if text::byte_at(s, p) == b'*' {
             p = p + 1;
-            if text::byte_at(s, p) == 47 {
+            if text::byte_at(s, p) == b'/' {
                 break Ended {
                     end: p + 1,
                     closed: true,

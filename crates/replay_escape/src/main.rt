@@ -1,35 +1,34 @@
 // Reads framed bodies and prints what `unescape` answers, in the form of rust/oracle. What it must print is what the Rust printed.
 // A frame is a mode byte, a length as a little-endian u32, and that many bytes. What is no whole frame ends the run.
+use buffer::page;
+use buffer::page::Page;
+use buffer::page::put;
+use buffer::page::put_bytes;
+use buffer::page::put_decimal;
+use places::part;
 use unescape::Form;
 use unescape::Unescaped;
 ghost use Prim.Native.Nat.{_<_};
-ghost use mathlib.Core.Path.{_≡_};
-ghost use lib.ListN.{length};
 
-enum Mode {
-    Is { form: Form },
-    Unknown,
+// A body's form and length; or there is no frame.
+enum Frame {
+    Body { form: Form, size: usize },
+    End,
 }
 
-// A frame was answered, with n bytes now waiting to be printed; or there was none.
-enum Reply {
-    Answered { n: usize },
-    Ended,
-}
-
-fn mode_of(b: u8) -> Mode {
-    match b {
-        b't' => Mode::Is { form: Form::Text },
-        b'p' => Mode::Is {
-            form: Form::Template,
-        },
-        b'c' => Mode::Is { form: Form::Char },
-        b's' => Mode::Is {
-            form: Form::ByteText,
-        },
-        b'b' => Mode::Is { form: Form::Byte },
-        _ => Mode::Unknown,
+fn frame_of(mode: u8, size: usize) -> Frame {
+    match mode {
+        b't' => body(Form::Text, size),
+        b'p' => body(Form::Template, size),
+        b'c' => body(Form::Char, size),
+        b's' => body(Form::ByteText, size),
+        b'b' => body(Form::Byte, size),
+        _ => Frame::End,
     }
+}
+
+fn body(form: Form, size: usize) -> Frame {
+    Frame::Body { form, size }
 }
 
 fn wide(b: u8) -> usize
@@ -38,8 +37,16 @@ fn wide(b: u8) -> usize
     b as usize
 }
 
-fn length_of(head: &[u8; 5]) -> usize {
-    wide(head[1]) + wide(head[2]) * 256 + wide(head[3]) * 65536 + wide(head[4]) * 16777216
+fn length_of(a: u8, b: u8, c: u8, d: u8) -> usize {
+    wide(a) + wide(b) * 256 + wide(c) * 65536 + wide(d) * 16777216
+}
+
+fn read_head() -> Frame {
+    let mut head = [0u8; 5];
+    if io::read_full(0, &mut head) < 5 {
+        return Frame::End;
+    }
+    frame_of(head[0], length_of(head[1], head[2], head[3], head[4]))
 }
 
 fn digit(x: u8) -> u8 {
@@ -50,54 +57,42 @@ fn digit(x: u8) -> u8 {
     }
 }
 
-fn emit_hex(out: &mut [u8], n: usize, bytes: &[u8]) -> usize {
-    let mut k = n;
+fn put_hex(out: Page, bytes: &[u8]) -> Page {
+    let mut out = out;
     let mut i = 0;
     while i < bytes.len() {
         let b = bytes[i];
-        k = buffer::put(out, k, digit(b / 16));
-        k = buffer::put(out, k, digit(b % 16));
+        out = put(put(out, digit(b / 16)), digit(b % 16));
         i = i + 1;
     }
-    k
+    out
 }
 
 // A space and a number.
-fn emit_next(out: &mut [u8], n: usize, x: usize) -> usize {
-    let k = buffer::put(out, n, b' ');
-    buffer::put_decimal(out, k, x as u64)
+fn put_next(out: Page, x: usize) -> Page {
+    put_decimal(put(out, b' '), x as u64)
 }
 
-fn emit_written(out: &mut [u8], n: usize, bytes: &[u8]) -> usize {
-    let a = buffer::put_bytes(out, n, b"out");
-    let b = emit_next(out, a, bytes.len());
+fn put_written(out: Page, bytes: &[u8]) -> Page {
+    let out = put_next(put_bytes(out, b"out"), bytes.len());
     if bytes.len() == 0 {
-        return buffer::put_bytes(out, b, b"\n.\n");
+        return out;
     }
-    let c = buffer::put(out, b, b' ');
-    let d = emit_hex(out, c, bytes);
-    buffer::put_bytes(out, d, b"\n.\n")
+    put_hex(put(out, b' '), bytes)
 }
 
-fn emit_refused(out: &mut [u8], n: usize, number: u32, start: usize, end: usize) -> usize {
-    let a = buffer::put_bytes(out, n, b"refused");
-    let b = emit_next(out, a, number as usize);
-    let c = emit_next(out, b, start);
-    let d = emit_next(out, c, end);
-    buffer::put_bytes(out, d, b"\n.\n")
+fn put_refused(out: Page, number: u32, start: usize, end: usize) -> Page {
+    let mut out = put_next(put_bytes(out, b"refused"), number as usize);
+    out = put_next(out, start);
+    put_next(out, end)
 }
 
-fn emit_answer(out: &mut [u8], n: usize, answer: Unescaped, written: &[u8]) -> usize {
-    match answer {
-        Unescaped::Wrote { count } => {
-            if written.len() < count {
-                return n;
-            }
-            emit_written(out, n, &written[..count])
-        }
+fn put_answer(out: Page, body: &[u8], form: Form, written: &mut [u8]) -> Page {
+    match unescape::unescape(body, form, written) {
+        Unescaped::Wrote { count } => put_written(out, part(written, 0, count)),
         Unescaped::Refused { refusal } => {
             let span = refusal.span;
-            emit_refused(out, n, refusal.number, span.start, span.end)
+            put_refused(out, refusal.number, span.start, span.end)
         }
     }
 }
@@ -109,65 +104,36 @@ fn read_body(body: &mut [u8], size: usize) -> bool {
     io::read_full(0, &mut body[..size]) == size
 }
 
-fn answer_body(
-    body: &[u8],
-    size: usize,
-    form: Form,
-    written: &mut [u8],
-    out: &mut [u8],
-    n: usize,
-) -> usize {
-    if body.len() < size {
-        return n;
-    }
-    let answer = unescape::unescape(&body[..size], form, written);
-    emit_answer(out, n, answer, written)
-}
-
-fn turn(body: &mut [u8], written: &mut [u8], out: &mut [u8], n: usize) -> Reply {
-    let mut head = [0u8; 5];
-    if io::read_full(0, &mut head) < 5 {
-        return Reply::Ended;
-    }
-    let Mode::Is { form } = mode_of(head[0]) else {
-        return Reply::Ended;
+// A frame's answer and a line `.`; false where there was none, or nobody reads.
+fn turn(body: &mut [u8; 66000], written: &mut [u8; 65536]) -> bool {
+    let Frame::Body { form, size } = read_head() else {
+        return false;
     };
-    let size = length_of(&head);
     if !read_body(body, size) {
-        return Reply::Ended;
+        return false;
     }
-    Reply::Answered {
-        n: answer_body(body, size, form, written, out, n),
-    }
+    let out = put_answer(page::blank(), part(body, 0, size), form, written);
+    page::flush(put_bytes(out, b"\n.\n"))
 }
 
-fn all(body: &mut [u8], written: &mut [u8], out: &mut [u8]) {
-    let mut n = 0;
-    let mut left = u64::MAX;
-    while 0 < left {
-        match turn(body, written, out, n) {
-            Reply::Answered { n: k } => {
-                n = k;
-                left = left - 1;
-            }
-            Reply::Ended => {
-                left = 0;
-            }
+// Nothing says that the input ends: the number of turns falls.
+fn answer_all(body: &mut [u8; 66000], written: &mut [u8; 65536]) {
+    let mut turns = u64::MAX;
+    while turns > 0 {
+        if !turn(body, written) {
+            return;
         }
+        turns = turns - 1;
     }
-    buffer::flush(out, n);
 }
 
 // Room for a body that is too long by a little.
-fn room() -> [u8; 66000]
-    ensures { λ r. ⌜ 66000 ≡ length r ⌝ }
-{
+fn room() -> [u8; 66000] {
     [0; 66000]
 }
 
 fn main() {
     let mut body = room();
     let mut written = io::large_buffer();
-    let mut out = io::large_buffer();
-    all(&mut body, &mut written, &mut out);
+    answer_all(&mut body, &mut written);
 }

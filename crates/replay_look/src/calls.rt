@@ -1,5 +1,6 @@
-// The calls of a script, two bytes each: a code and an argument. A code above 11 is taken for 11.
+// The calls of a script, two bytes each: a code and an argument. The state is arrays of a known length, which are cheaper to lend than slices.
 use crate::lines::put_looked;
+use buffer::page::Page;
 use looks::Looked;
 use looks::emits::advance_at;
 use looks::emits::array_at;
@@ -13,6 +14,8 @@ use looks::show::nth_at;
 use looks::show::nth_token_at;
 use looks::show::peek_at;
 use looks::whiles::bump_while_at;
+
+const OUTSIDE: u8 = 12;
 
 fn show(
     nums: &mut [u32; 6],
@@ -33,68 +36,49 @@ fn show(
     }
 }
 
-fn emit_more(
-    nums: &mut [u32; 6],
-    held: &mut [u32; 8],
-    counts: &mut [u32; 8],
-    waiting: &mut [u32; 256],
-    code: u8,
-    n: u8,
-    list: &[u32],
-    written: &mut [u32],
-) -> Looked {
-    match code {
-        7 => bump_while_at(nums, held, counts, waiting, 0, n as u32, list, written),
-        9 => array_at(nums, held, counts, waiting, 0, n as usize, list, written),
-        _ => advance_at(nums, held, counts, waiting, 0, n as usize, list, written),
-    }
-}
-
-fn emit_one(
-    nums: &mut [u32; 6],
-    held: &mut [u32; 8],
-    counts: &mut [u32; 8],
-    waiting: &mut [u32; 256],
-    code: u8,
-    n: u8,
-    list: &[u32],
-    written: &mut [u32],
-) -> Looked {
-    match code {
-        5 => flush_at(nums, held, counts, waiting, 0, list, written),
-        6 => bump_at(nums, held, counts, waiting, 0, list, written),
-        _ => bump_if_at(nums, held, counts, waiting, 0, n as u32, list, written),
-    }
-}
-
-// No kind has the numbers 0, 8 and those above 67; they are outside of what is compared.
-fn is_outside(code: u8, n: u8) -> bool {
-    match code {
-        7 | 8 => match n {
-            0 | 8 | 68..=255 => true,
-            _ => false,
-        },
-        _ => false,
-    }
-}
-
 fn call(
     nums: &mut [u32; 6],
     held: &mut [u32; 8],
     counts: &mut [u32; 8],
     waiting: &mut [u32; 256],
+    written: &mut [u32; 12288],
     code: u8,
     n: u8,
     list: &[u32],
-    written: &mut [u32],
 ) -> Looked {
-    if is_outside(code, n) {
-        return Looked::Refused { number: 33 };
-    }
+    let kind = n as u32;
+    let n = n as usize;
     match code {
-        5 | 6 | 8 => emit_one(nums, held, counts, waiting, code, n, list, written),
-        7 | 9 | 10 => emit_more(nums, held, counts, waiting, code, n, list, written),
-        _ => show(nums, held, counts, waiting, code, n as usize, list),
+        5 => flush_at(nums, held, counts, waiting, 0, list, written),
+        6 => bump_at(nums, held, counts, waiting, 0, list, written),
+        7 => bump_while_at(nums, held, counts, waiting, 0, kind, list, written),
+        8 => bump_if_at(nums, held, counts, waiting, 0, kind, list, written),
+        9 => array_at(nums, held, counts, waiting, 0, n, list, written),
+        10 => advance_at(nums, held, counts, waiting, 0, n, list, written),
+        OUTSIDE => Looked::Refused { number: 33 },
+        _ => show(nums, held, counts, waiting, code, n, list),
+    }
+}
+
+// No kind has the numbers 0, 8 and those above 67.
+fn is_kind(n: u8) -> bool {
+    match n {
+        0 | 8 | 68..=255 => false,
+        _ => true,
+    }
+}
+
+// A code above 11 is taken for 11. A call by a number that no kind has is outside of what is compared.
+fn code_of(code: u8, n: u8) -> u8 {
+    match code {
+        7 | 8 => {
+            if is_kind(n) {
+                return code;
+            }
+            OUTSIDE
+        }
+        12..=255 => 11,
+        _ => code,
     }
 }
 
@@ -105,42 +89,42 @@ fn is_done(answer: Looked) -> bool {
     }
 }
 
+fn flag(yes: bool) -> u32 {
+    if yes { 1 } else { 0 }
+}
+
 // A line a call, until one is refused.
 pub fn put_calls(
+    begun: Page,
     keep: bool,
     list: &[u32],
     script: &[u8],
-    written: &mut [u32],
-    out: &mut [u8],
-    begun: usize,
-) -> usize {
-    let mut nums = [0u32; 6];
-    if keep {
-        nums[1] = 1;
-    }
+    written: &mut [u32; 12288],
+) -> Page {
+    let mut nums = [0, flag(keep), 0, 0, 0, 0];
     let mut held = [0u32; 8];
     let mut counts = [0u32; 8];
     let mut waiting = [0u32; 256];
-    let mut put = begun;
+    let mut out = begun;
     let mut i: usize = 0;
     while 1 < script.len() - i {
-        let code = script[i];
         let n = script[i + 1];
+        let code = code_of(script[i], n);
         let answer = call(
             &mut nums,
             &mut held,
             &mut counts,
             &mut waiting,
+            written,
             code,
             n,
             list,
-            written,
         );
-        put = put_looked(out, put, code, answer, written);
+        out = put_looked(out, code, answer, written);
         if !is_done(answer) {
-            return put;
+            return out;
         }
         i = i + 2;
     }
-    put
+    out
 }

@@ -3,27 +3,23 @@
 mod calls;
 mod lines;
 
-ghost use Prim.Native.Nat.{_≤_, _<_};
-ghost use mathlib.Core.Path.{_≡_};
-ghost use lib.ListN.{length};
+ghost use Prim.Native.Nat.{_<_};
+use buffer::page;
+use buffer::page::Page;
+use buffer::page::put_bytes;
 use listing::Listed;
+use places::part;
 use readers::Comments;
 use readers::Reading;
 
-// The bytes of a frame's source and of its calls, and whether white space is kept.
+// Where the source ends in a frame's payload, and where the calls after it do; and whether white space is kept.
 enum Frame {
     Script {
         keep: bool,
         source: usize,
-        calls: usize,
+        end: usize,
     },
     End,
-}
-
-// A frame was answered, with so many bytes now waiting to be printed; or there was none.
-enum Reply {
-    Answered { waiting: usize },
-    Ended,
 }
 
 fn wide(byte: u8) -> usize
@@ -36,167 +32,119 @@ fn length_of(a: u8, b: u8, c: u8, d: u8) -> usize {
     wide(a) + wide(b) * 256 + wide(c) * 65536 + wide(d) * 16777216
 }
 
+// There is room for a source of 4096 bytes, and for as many calls.
+fn frame_of(mode: u8, keep: u8, payload: usize, source: usize) -> Frame {
+    if mode != b'a' {
+        return Frame::End;
+    }
+    if payload < 5 {
+        return Frame::End;
+    }
+    if 4096 < source {
+        return Frame::End;
+    }
+    Frame::Script {
+        keep: keep == 1,
+        source,
+        end: payload - 5,
+    }
+}
+
 // A mode byte, the payload's length, the byte for white space and the source's length, lengths low byte first.
 fn read_head() -> Frame {
     let mut head = [0u8; 10];
     if io::read_full(0, &mut head) < 10 {
         return Frame::End;
     }
-    if head[0] != b'a' {
-        return Frame::End;
-    }
-    let payload = length_of(head[1], head[2], head[3], head[4]);
-    let source = length_of(head[6], head[7], head[8], head[9]);
-    if payload < 5 {
-        return Frame::End;
-    }
-    if payload - 5 < source {
-        return Frame::End;
-    }
-    Frame::Script {
-        keep: head[5] == 1,
-        source,
-        calls: payload - 5 - source,
-    }
+    frame_of(
+        head[0],
+        head[5],
+        length_of(head[1], head[2], head[3], head[4]),
+        length_of(head[6], head[7], head[8], head[9]),
+    )
 }
 
-fn read_part(room: &mut [u8], size: usize) -> bool {
-    if room.len() < size {
+fn read_payload(payload: &mut [u8], size: usize) -> bool {
+    if payload.len() < size {
         return false;
     }
-    io::read_full(0, &mut room[..size]) == size
-}
-
-// As much of a size as there is room.
-fn within(size: usize, room: &[u8]) -> usize
-    ensures { λ r. ⌜ r ≤ length (now (room .entry)) ⌝ }
-{
-    if size < room.len() {
-        return size;
-    }
-    room.len()
+    io::read_full(0, &mut payload[..size]) == size
 }
 
 // The words of so many tokens.
-fn size_of(count: usize, list: &[u32]) -> usize
-    ensures { λ r. ⌜ r ≤ length (now (list .entry)) ⌝ }
-{
+fn front(list: &[u32], count: usize) -> &[u32] {
     let most = list.len() / 3;
     if count < most {
-        return count * 3;
+        return &list[..count * 3];
     }
-    most * 3
+    list
 }
 
-fn answer_script(
+// The source is the payload's first bytes, and the calls are the others.
+fn answer(
+    payload: &[u8],
     keep: bool,
-    source: &[u8],
-    script: &[u8],
-    list: &mut [u32],
-    written: &mut [u32],
-    out: &mut [u8],
-    waiting: usize,
-) -> usize {
+    source: usize,
+    end: usize,
+    list: &mut [u32; 12288],
+    written: &mut [u32; 12288],
+) -> Page {
     let reading = Reading {
         comments: Comments::Crate,
     };
-    match listing::list(source, reading, list) {
+    match listing::list(part(payload, 0, source), reading, list) {
         Listed::Stopped { count: _, refusal } => {
             let span = refusal.span;
-            lines::put_refused(out, waiting, refusal.number, span.start, span.end)
+            lines::put_refused(page::blank(), refusal.number, span.start, span.end)
         }
-        Listed::Whole { count } => {
-            let size = size_of(count, list);
-            calls::put_calls(keep, &list[..size], script, written, out, waiting)
-        }
-    }
-}
-
-// The frame's answer and a line `.`.
-fn answer(
-    keep: bool,
-    source: &[u8],
-    script: &[u8],
-    list: &mut [u32],
-    written: &mut [u32],
-    out: &mut [u8],
-    waiting: usize,
-) -> usize {
-    let answered = answer_script(keep, source, script, list, written, out, waiting);
-    buffer::put_bytes(out, answered, b".\n")
-}
-
-fn turn(
-    source: &mut [u8],
-    script: &mut [u8],
-    list: &mut [u32],
-    written: &mut [u32],
-    out: &mut [u8],
-    waiting: usize,
-) -> Reply {
-    let Frame::Script {
-        keep,
-        source: size,
-        calls,
-    } = read_head()
-    else {
-        return Reply::Ended;
-    };
-    if !read_part(source, size) {
-        return Reply::Ended;
-    }
-    if !read_part(script, calls) {
-        return Reply::Ended;
-    }
-    let s = within(size, source);
-    let n = within(calls, script);
-    Reply::Answered {
-        waiting: answer(
+        Listed::Whole { count } => calls::put_calls(
+            page::blank(),
             keep,
-            &source[..s],
-            &script[..n],
-            list,
+            front(list, count),
+            part(payload, source, end),
             written,
-            out,
-            waiting,
         ),
     }
 }
 
+fn read_frame(payload: &mut [u8]) -> Frame {
+    let Frame::Script { keep, source, end } = read_head() else {
+        return Frame::End;
+    };
+    if !read_payload(payload, end) {
+        return Frame::End;
+    }
+    Frame::Script { keep, source, end }
+}
+
+// A frame's answer and a line `.`; false where there was none, or nobody reads.
+fn turn(payload: &mut [u8; 65536], list: &mut [u32; 12288], written: &mut [u32; 12288]) -> bool {
+    let Frame::Script { keep, source, end } = read_frame(payload) else {
+        return false;
+    };
+    let answered = answer(payload, keep, source, end, list, written);
+    page::flush(put_bytes(answered, b".\n"))
+}
+
 // Nothing says that the input ends: the number of turns falls.
-fn answer_all(
-    source: &mut [u8],
-    script: &mut [u8],
-    list: &mut [u32],
-    written: &mut [u32],
-    out: &mut [u8],
-) -> usize {
-    let mut waiting: usize = 0;
+fn answer_all(payload: &mut [u8; 65536], list: &mut [u32; 12288], written: &mut [u32; 12288]) {
     let mut turns = u64::MAX;
     while turns > 0 {
-        let Reply::Answered { waiting: now } = turn(source, script, list, written, out, waiting)
-        else {
-            return waiting;
-        };
-        waiting = now;
+        if !turn(payload, list, written) {
+            return;
+        }
         turns = turns - 1;
     }
-    waiting
 }
 
 // Three words for each byte of a source.
-fn words() -> [u32; 12288]
-    ensures { λ r. ⌜ 12288 ≡ length r ⌝ }
-{
+fn words() -> [u32; 12288] {
     [0; 12288]
 }
 
 fn main() {
-    let mut source = io::buffer();
-    let mut script = io::buffer();
+    let mut payload = io::large_buffer();
     let mut list = words();
     let mut written = words();
-    let mut out = io::large_buffer();
-    let waiting = answer_all(&mut source, &mut script, &mut list, &mut written, &mut out);
-    buffer::flush(&out, waiting);
+    answer_all(&mut payload, &mut list, &mut written);
 }

@@ -1,9 +1,10 @@
 // A source line, and under it a mark. A tab stays a tab in both, so that the mark stands under what it marks.
 use crate::ink::put_ink;
 use crate::ink::put_reset;
-use buffer::put;
-use buffer::put_bytes;
-use buffer::put_decimal;
+use buffer::page::Page;
+use buffer::page::put;
+use buffer::page::put_bytes;
+use buffer::page::put_decimal;
 use places::Window;
 use places::after;
 use places::part;
@@ -20,33 +21,33 @@ pub(crate) fn digits_of(line: usize) -> usize {
     io::decimal(line as u64, &mut digits)
 }
 
-fn put_blanks(out: &mut [u8], waiting: usize, count: usize) -> usize {
-    let mut waiting = waiting;
+fn put_blanks(out: Page, count: usize) -> Page {
+    let mut out = out;
     let mut left = count;
     while 0 < left {
-        waiting = put(out, waiting, b' ');
+        out = put(out, b' ');
         left = left - 1;
     }
-    waiting
+    out
 }
 
 // What stands before a line that is no source line.
-pub(crate) fn put_edge(out: &mut [u8], waiting: usize, sheet: Sheet, sign: u8) -> usize {
-    let mut waiting = put_blanks(out, waiting, sheet.width);
-    waiting = put_bytes(out, waiting, b"   ");
-    waiting = put(out, waiting, sign);
-    put(out, waiting, b' ')
+pub(crate) fn put_edge(out: Page, sheet: Sheet, sign: u8) -> Page {
+    let mut out = put_blanks(out, sheet.width);
+    out = put_bytes(out, b"   ");
+    out = put(out, sign);
+    put(out, b' ')
 }
 
 pub(crate) fn less(a: usize, b: usize) -> usize {
     if b < a { a - b } else { 0 }
 }
 
-fn put_line_number(out: &mut [u8], waiting: usize, sheet: Sheet, line: usize) -> usize {
-    let mut waiting = put_bytes(out, waiting, b"  ");
-    waiting = put_blanks(out, waiting, less(sheet.width, digits_of(line)));
-    waiting = put_decimal(out, waiting, line as u64);
-    put_bytes(out, waiting, b" | ")
+fn put_line_number(out: Page, sheet: Sheet, line: usize) -> Page {
+    let mut out = put_bytes(out, b"  ");
+    out = put_blanks(out, less(sheet.width, digits_of(line)));
+    out = put_decimal(out, line as u64);
+    put_bytes(out, b" | ")
 }
 
 // What cannot be seen: controls but the tab, and the byte order mark.
@@ -60,28 +61,28 @@ fn is_hidden(value: u32) -> bool {
     classes::is_control(value)
 }
 
-fn put_replacement(out: &mut [u8], waiting: usize) -> usize {
-    put_bytes(out, waiting, b"\xef\xbf\xbd")
+fn put_replacement(out: Page) -> Page {
+    put_bytes(out, b"\xef\xbf\xbd")
 }
 
-fn put_scalar(out: &mut [u8], waiting: usize, bytes: &[u8], at: usize) -> usize {
+fn put_scalar(out: Page, bytes: &[u8], at: usize) -> Page {
     let Scalar::One { value, next } = text::scalar_at(bytes, at) else {
-        return put_replacement(out, waiting);
+        return put_replacement(out);
     };
     if is_hidden(value) {
-        return put_replacement(out, waiting);
+        return put_replacement(out);
     }
-    put_bytes(out, waiting, part(bytes, at, next))
+    put_bytes(out, part(bytes, at, next))
 }
 
-pub(crate) fn put_shown(out: &mut [u8], waiting: usize, bytes: &[u8]) -> usize {
-    let mut waiting = waiting;
+pub(crate) fn put_shown(out: Page, bytes: &[u8]) -> Page {
+    let mut out = out;
     let mut i: usize = 0;
     while i < bytes.len() {
-        waiting = put_scalar(out, waiting, bytes, i);
+        out = put_scalar(out, bytes, i);
         i = after(bytes, i);
     }
-    waiting
+    out
 }
 
 fn sign_under(byte: u8, sign: u8) -> u8 {
@@ -89,48 +90,36 @@ fn sign_under(byte: u8, sign: u8) -> u8 {
 }
 
 // A sign under each scalar.
-fn put_under(out: &mut [u8], waiting: usize, bytes: &[u8], sign: u8) -> usize {
-    let mut waiting = waiting;
+fn put_under(out: Page, bytes: &[u8], sign: u8) -> Page {
+    let mut out = out;
     let mut i: usize = 0;
     while i < bytes.len() {
-        waiting = put(out, waiting, sign_under(bytes[i], sign));
+        out = put(out, sign_under(bytes[i], sign));
         i = after(bytes, i);
     }
-    waiting
+    out
 }
 
 // One caret at least, also under nothing.
-fn put_carets(out: &mut [u8], waiting: usize, bytes: &[u8]) -> usize {
-    let waiting = put(out, waiting, b'^');
-    put_under(
-        out,
-        waiting,
-        part(bytes, after(bytes, 0), bytes.len()),
-        b'^',
-    )
+fn put_carets(out: Page, bytes: &[u8]) -> Page {
+    let out = put(out, b'^');
+    put_under(out, part(bytes, after(bytes, 0), bytes.len()), b'^')
 }
 
 // Some bytes, or nothing.
-pub fn put_if(out: &mut [u8], waiting: usize, asked: bool, bytes: &[u8]) -> usize {
+pub fn put_if(out: Page, asked: bool, bytes: &[u8]) -> Page {
     if asked {
-        return put_bytes(out, waiting, bytes);
+        return put_bytes(out, bytes);
     }
-    waiting
+    out
 }
 
-fn put_source(
-    out: &mut [u8],
-    waiting: usize,
-    s: &[u8],
-    sheet: Sheet,
-    line: usize,
-    w: Window,
-) -> usize {
-    let mut waiting = put_line_number(out, waiting, sheet, line);
-    waiting = put_if(out, waiting, w.left, b"..");
-    waiting = put_shown(out, waiting, part(s, w.from, w.to));
-    waiting = put_if(out, waiting, w.right, b"..");
-    put(out, waiting, b'\n')
+fn put_source(out: Page, s: &[u8], sheet: Sheet, line: usize, w: Window) -> Page {
+    let mut out = put_line_number(out, sheet, line);
+    out = put_if(out, w.left, b"..");
+    out = put_shown(out, part(s, w.from, w.to));
+    out = put_if(out, w.right, b"..");
+    put(out, b'\n')
 }
 
 pub(crate) fn least(a: usize, b: usize) -> usize {
@@ -139,31 +128,30 @@ pub(crate) fn least(a: usize, b: usize) -> usize {
 
 // The line that a place stands on, and carets from there to before another place, as far as the line is shown. The ink stays on for what is said.
 pub(crate) fn put_mark(
-    out: &mut [u8],
-    waiting: usize,
+    out: Page,
     s: &[u8],
     sheet: Sheet,
     line: usize,
     from: usize,
     to: usize,
-) -> usize {
+) -> Page {
     let w = places::around(s, from);
-    let mut waiting = put_source(out, waiting, s, sheet, line, w);
-    waiting = put_edge(out, waiting, sheet, b'|');
-    waiting = put_if(out, waiting, w.left, b"  ");
-    waiting = put_under(out, waiting, part(s, w.from, from), b' ');
-    waiting = put_ink(out, waiting, sheet.ink);
-    put_carets(out, waiting, part(s, from, least(to, w.to)))
+    let mut out = put_source(out, s, sheet, line, w);
+    out = put_edge(out, sheet, b'|');
+    out = put_if(out, w.left, b"  ");
+    out = put_under(out, part(s, w.from, from), b' ');
+    out = put_ink(out, sheet.ink);
+    put_carets(out, part(s, from, least(to, w.to)))
 }
 
-pub(crate) fn put_mark_end(out: &mut [u8], waiting: usize, sheet: Sheet) -> usize {
-    let waiting = put_reset(out, waiting, sheet.ink);
-    put(out, waiting, b'\n')
+pub(crate) fn put_mark_end(out: Page, sheet: Sheet) -> Page {
+    let out = put_reset(out, sheet.ink);
+    put(out, b'\n')
 }
 
 // What a mark says.
-pub(crate) fn put_label(out: &mut [u8], waiting: usize, sheet: Sheet, label: &[u8]) -> usize {
-    let mut waiting = put_if(out, waiting, 0 < label.len(), b" ");
-    waiting = put_bytes(out, waiting, label);
-    put_mark_end(out, waiting, sheet)
+pub(crate) fn put_label(out: Page, sheet: Sheet, label: &[u8]) -> Page {
+    let mut out = put_if(out, 0 < label.len(), b" ");
+    out = put_bytes(out, label);
+    put_mark_end(out, sheet)
 }

@@ -3,6 +3,8 @@ use crate::ink::CYAN;
 use crate::ink::NONE;
 use crate::ink::RED;
 use crate::ink::YELLOW;
+use buffer::page;
+use buffer::page::Page;
 
 // The number of its texts, its span, and the stretch that it is about. A refusal has none: from and to are its end.
 pub struct Finding {
@@ -27,11 +29,11 @@ pub fn severity_of(number: u32) -> Severity {
     }
 }
 
-pub(crate) fn put_severity(out: &mut [u8], waiting: usize, severity: Severity) -> usize {
+pub(crate) fn put_severity(out: Page, severity: Severity) -> Page {
     match severity {
-        Severity::Error => buffer::put_bytes(out, waiting, b"error"),
-        Severity::Warning => buffer::put_bytes(out, waiting, b"warning"),
-        Severity::Note => buffer::put_bytes(out, waiting, b"note"),
+        Severity::Error => page::put_bytes(out, b"error"),
+        Severity::Warning => page::put_bytes(out, b"warning"),
+        Severity::Note => page::put_bytes(out, b"note"),
     }
 }
 

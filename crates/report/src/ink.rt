@@ -1,6 +1,7 @@
 // Colours of a terminal, each by the digit of its code. Where the ink is NONE nothing is written.
-use buffer::put;
-use buffer::put_bytes;
+use buffer::page::Page;
+use buffer::page::put;
+use buffer::page::put_bytes;
 
 pub(crate) const NONE: u8 = 0;
 
@@ -10,25 +11,25 @@ pub(crate) const YELLOW: u8 = b'3';
 
 pub(crate) const CYAN: u8 = b'6';
 
-pub(crate) fn put_ink(out: &mut [u8], waiting: usize, ink: u8) -> usize {
+pub(crate) fn put_ink(out: Page, ink: u8) -> Page {
     if ink == NONE {
-        return waiting;
+        return out;
     }
-    let mut waiting = put_bytes(out, waiting, b"\x1b[3");
-    waiting = put(out, waiting, ink);
-    put(out, waiting, b'm')
+    let mut out = put_bytes(out, b"\x1b[3");
+    out = put(out, ink);
+    put(out, b'm')
 }
 
-pub(crate) fn put_bold(out: &mut [u8], waiting: usize, ink: u8) -> usize {
+pub(crate) fn put_bold(out: Page, ink: u8) -> Page {
     if ink == NONE {
-        return waiting;
+        return out;
     }
-    put_bytes(out, waiting, b"\x1b[1m")
+    put_bytes(out, b"\x1b[1m")
 }
 
-pub(crate) fn put_reset(out: &mut [u8], waiting: usize, ink: u8) -> usize {
+pub(crate) fn put_reset(out: Page, ink: u8) -> Page {
     if ink == NONE {
-        return waiting;
+        return out;
     }
-    put_bytes(out, waiting, b"\x1b[0m")
+    put_bytes(out, b"\x1b[0m")
 }

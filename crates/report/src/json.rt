@@ -3,56 +3,57 @@ use crate::drawing::put_if;
 use crate::finding::Finding;
 use crate::finding::put_severity;
 use crate::finding::severity_of;
-use buffer::put;
-use buffer::put_bytes;
-use buffer::put_decimal;
+use buffer::page::Page;
+use buffer::page::put;
+use buffer::page::put_bytes;
+use buffer::page::put_decimal;
 use places::Place;
 use places::moved;
 use token::refusal::NO_ROOM;
 
-fn put_control(out: &mut [u8], waiting: usize, byte: u8) -> usize {
+fn put_control(out: Page, byte: u8) -> Page {
     let mut digits = [0u8; 16];
-    let count = io::hex(wide(byte), 4, &mut digits);
-    let waiting = put_bytes(out, waiting, b"\\u");
-    put_bytes(out, waiting, &digits[..count])
+    let count = io::hex(u64_of(byte), 4, &mut digits);
+    let out = put_bytes(out, b"\\u");
+    put_bytes(out, &digits[..count])
 }
 
-fn wide(byte: u8) -> u64 {
+fn u64_of(byte: u8) -> u64 {
     byte as u64
 }
 
-fn put_escaped(out: &mut [u8], waiting: usize, byte: u8) -> usize {
+fn put_escaped(out: Page, byte: u8) -> Page {
     if byte < 0x20 {
-        return put_control(out, waiting, byte);
+        return put_control(out, byte);
     }
-    let waiting = put_if(out, waiting, byte == b'"', b"\\");
-    let waiting = put_if(out, waiting, byte == b'\\', b"\\");
-    put(out, waiting, byte)
+    let out = put_if(out, byte == b'"', b"\\");
+    let out = put_if(out, byte == b'\\', b"\\");
+    put(out, byte)
 }
 
-fn put_string(out: &mut [u8], waiting: usize, bytes: &[u8]) -> usize {
-    let mut waiting = waiting;
+fn put_string(out: Page, bytes: &[u8]) -> Page {
+    let mut out = out;
     let mut i: usize = 0;
     while i < bytes.len() {
-        waiting = put_escaped(out, waiting, bytes[i]);
+        out = put_escaped(out, bytes[i]);
         i = i + 1;
     }
-    waiting
+    out
 }
 
-fn put_number(out: &mut [u8], waiting: usize, key: &[u8], number: usize) -> usize {
-    let mut waiting = put_bytes(out, waiting, b",\"");
-    waiting = put_bytes(out, waiting, key);
-    waiting = put_bytes(out, waiting, b"\":");
-    put_decimal(out, waiting, number as u64)
+fn put_number(out: Page, key: &[u8], number: usize) -> Page {
+    let mut out = put_bytes(out, b",\"");
+    out = put_bytes(out, key);
+    out = put_bytes(out, b"\":");
+    put_decimal(out, number as u64)
 }
 
-fn put_places(out: &mut [u8], waiting: usize, s: &[u8], p: Place, end: usize) -> usize {
+fn put_places(out: Page, s: &[u8], p: Place, end: usize) -> Page {
     let last = moved(s, p, end);
-    let mut waiting = put_number(out, waiting, b"line", p.line);
-    waiting = put_number(out, waiting, b"column", p.column);
-    waiting = put_number(out, waiting, b"end_line", last.line);
-    put_number(out, waiting, b"end_column", last.column)
+    let mut out = put_number(out, b"line", p.line);
+    out = put_number(out, b"column", p.column);
+    out = put_number(out, b"end_line", last.line);
+    put_number(out, b"end_column", last.column)
 }
 
 // The number of its texts tells a template from a comment; the finding's own does not.
@@ -64,59 +65,51 @@ fn code_of(number: u32) -> usize {
     }
 }
 
-fn put_numbers(out: &mut [u8], waiting: usize, f: Finding) -> usize {
-    let mut waiting = put_number(out, waiting, b"number", code_of(f.number));
-    waiting = put_number(out, waiting, b"start", f.start);
-    waiting = put_number(out, waiting, b"end", f.end);
-    waiting = put_number(out, waiting, b"from", f.from);
-    put_number(out, waiting, b"to", f.to)
+fn put_numbers(out: Page, f: Finding) -> Page {
+    let mut out = put_number(out, b"number", code_of(f.number));
+    out = put_number(out, b"start", f.start);
+    out = put_number(out, b"end", f.end);
+    out = put_number(out, b"from", f.from);
+    put_number(out, b"to", f.to)
 }
 
-fn put_file(out: &mut [u8], waiting: usize, file: &[u8]) -> usize {
-    let mut waiting = put_bytes(out, waiting, b"{\"file\":\"");
-    waiting = put_string(out, waiting, file);
-    put(out, waiting, b'"')
+fn put_file(out: Page, file: &[u8]) -> Page {
+    let mut out = put_bytes(out, b"{\"file\":\"");
+    out = put_string(out, file);
+    put(out, b'"')
 }
 
-fn put_code(out: &mut [u8], waiting: usize, number: u32) -> usize {
-    let mut waiting = put_bytes(out, waiting, b",\"severity\":\"");
-    waiting = put_severity(out, waiting, severity_of(number));
-    waiting = put_bytes(out, waiting, b"\",\"code\":\"");
-    waiting = wordings::put_name(out, waiting, number);
-    put(out, waiting, b'"')
+fn put_code(out: Page, number: u32) -> Page {
+    let mut out = put_bytes(out, b",\"severity\":\"");
+    out = put_severity(out, severity_of(number));
+    out = put_bytes(out, b"\",\"code\":\"");
+    out = wordings::put_name(out, number);
+    put(out, b'"')
 }
 
-fn put_message(out: &mut [u8], waiting: usize, number: u32) -> usize {
-    let mut waiting = put_bytes(out, waiting, b",\"message\":\"");
-    waiting = wordings::put_what(out, waiting, number);
-    waiting = put_bytes(out, waiting, b"\",\"help\":\"");
-    waiting = wordings::put_cure(out, waiting, number);
-    put_bytes(out, waiting, b"\"}\n")
+fn put_message(out: Page, number: u32) -> Page {
+    let mut out = put_bytes(out, b",\"message\":\"");
+    out = wordings::put_what(out, number);
+    out = put_bytes(out, b"\",\"help\":\"");
+    out = wordings::put_cure(out, number);
+    put_bytes(out, b"\"}\n")
 }
 
 // The store is the checker's own: what it has no room for is told in other words.
-fn put_texts(out: &mut [u8], waiting: usize, number: u32) -> usize {
+fn put_texts(out: Page, number: u32) -> Page {
     if number == NO_ROOM {
         return put_bytes(
             out,
-            waiting,
             b",\"message\":\"more than 1000 findings\",\"help\":\"mend these first\"}\n",
         );
     }
-    put_message(out, waiting, number)
+    put_message(out, number)
 }
 
-pub fn put_json(
-    out: &mut [u8],
-    waiting: usize,
-    file: &[u8],
-    s: &[u8],
-    p: Place,
-    f: Finding,
-) -> usize {
-    let mut waiting = put_file(out, waiting, file);
-    waiting = put_places(out, waiting, s, p, f.end);
-    waiting = put_code(out, waiting, f.number);
-    waiting = put_numbers(out, waiting, f);
-    put_texts(out, waiting, f.number)
+pub fn put_json(out: Page, file: &[u8], s: &[u8], p: Place, f: Finding) -> Page {
+    let mut out = put_file(out, file);
+    out = put_places(out, s, p, f.end);
+    out = put_code(out, f.number);
+    out = put_numbers(out, f);
+    put_texts(out, f.number)
 }

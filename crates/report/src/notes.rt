@@ -6,39 +6,33 @@ use crate::stretch;
 use crate::stretch::first_close;
 use crate::stretch::is_bare;
 use crate::stretch::put_named;
-use buffer::put;
-use buffer::put_bytes;
+use buffer::page::Page;
+use buffer::page::put;
+use buffer::page::put_bytes;
 
-pub(crate) fn put_help(out: &mut [u8], waiting: usize, sheet: Sheet, number: u32) -> usize {
-    let mut waiting = put_edge(out, waiting, sheet, b'=');
-    waiting = put_bytes(out, waiting, b"help: ");
-    waiting = wordings::put_cure(out, waiting, number);
-    put(out, waiting, b'\n')
+pub(crate) fn put_help(out: Page, sheet: Sheet, number: u32) -> Page {
+    let mut out = put_edge(out, sheet, b'=');
+    out = put_bytes(out, b"help: ");
+    out = wordings::put_cure(out, number);
+    put(out, b'\n')
 }
 
-pub(crate) fn put_note(out: &mut [u8], waiting: usize, sheet: Sheet, note: &[u8]) -> usize {
-    let mut waiting = put_edge(out, waiting, sheet, b'=');
-    waiting = put_bytes(out, waiting, b"note: ");
-    put_bytes(out, waiting, note)
+pub(crate) fn put_note(out: Page, sheet: Sheet, note: &[u8]) -> Page {
+    let mut out = put_edge(out, sheet, b'=');
+    out = put_bytes(out, b"note: ");
+    put_bytes(out, note)
 }
 
-pub(crate) fn put_open_end(
-    out: &mut [u8],
-    waiting: usize,
-    s: &[u8],
-    sheet: Sheet,
-    f: Finding,
-) -> usize {
+pub(crate) fn put_open_end(out: Page, s: &[u8], sheet: Sheet, f: Finding) -> Page {
     let named = stretch::name(s, first_close(), f.from, f.to, 0);
     if is_bare(named) {
         return put_note(
             out,
-            waiting,
             sheet,
             b"nothing closes it; nothing but white space and comments follows\n",
         );
     }
-    let mut waiting = put_note(out, waiting, sheet, b"nothing closes it: ");
-    waiting = put_named(out, waiting, s, named);
-    put_bytes(out, waiting, b" and all that follows is not in force\n")
+    let mut out = put_note(out, sheet, b"nothing closes it: ");
+    out = put_named(out, s, named);
+    put_bytes(out, b" and all that follows is not in force\n")
 }

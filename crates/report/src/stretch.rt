@@ -3,14 +3,13 @@ use crate::drawing::least;
 use crate::drawing::less;
 use crate::drawing::put_if;
 use crate::drawing::put_shown;
-use buffer::put;
+use buffer::page::Page;
+use buffer::page::put;
 use places::ahead;
 use places::part;
 use readers::Comments;
 use readers::Reading;
-use token::Kind;
 use token::Read;
-use token::Token;
 
 const MOST: usize = 40;
 
@@ -27,6 +26,18 @@ struct Last {
     more: bool,
 }
 
+// A token by the number of its kind, and its end. What is refused has number 0, which no kind has.
+pub(crate) struct Found {
+    pub kind: u32,
+    pub end: usize,
+}
+
+// Where the last token ends that begins on a line and is no white space and no comment, and where the line is over.
+struct Line {
+    last: usize,
+    over: usize,
+}
+
 // The reading in which a comment ends where it seems to.
 pub(crate) fn first_close() -> Reading {
     Reading {
@@ -34,74 +45,78 @@ pub(crate) fn first_close() -> Reading {
     }
 }
 
-fn is_blank(kind: Kind) -> bool {
-    numbers::number_of(kind) <= 4
+pub(crate) fn token_at(s: &[u8], reading: Reading, at: usize) -> Found {
+    let Read::Got { token } = lexer::next(s, reading, at) else {
+        return Found { kind: 0, end: at };
+    };
+    let kind = token.kind;
+    Found {
+        kind: numbers::number_of(kind),
+        end: token.span.end,
+    }
+}
+
+// White space or a comment.
+fn is_blank(kind: u32) -> bool {
+    match kind {
+        1..=4 => true,
+        _ => false,
+    }
 }
 
 // The first token of a stretch that is no white space and no comment. What is refused there is such a one.
 fn first_word(s: &[u8], reading: Reading, from: usize, to: usize) -> usize {
     let mut p = from;
     while p < to {
-        let Read::Got { token } = lexer::next(s, reading, p) else {
-            return p;
-        };
-        let kind = token.kind;
-        let end = token.span.end;
-        if !is_blank(kind) {
+        let token = token_at(s, reading, p);
+        if !is_blank(token.kind) {
             return p;
         }
-        if end <= p {
+        if token.end <= p {
             return p;
         }
-        p = end;
+        p = token.end;
     }
     p
 }
 
-fn refused_word(last: usize, to: usize, line_over: bool) -> Last {
-    if line_over {
-        return Last {
-            to: last,
-            more: true,
-        };
+fn word_end(token: Found, last: usize) -> usize {
+    if is_blank(token.kind) {
+        return last;
     }
-    Last { to, more: false }
+    token.end
+}
+
+// What is refused is a word to the stretch's end.
+fn line_of(s: &[u8], reading: Reading, from: usize, to: usize) -> Line {
+    let mut p = from;
+    let mut last = from;
+    while p < to {
+        let token = token_at(s, reading, p);
+        if token.kind == 0 {
+            return Line { last: to, over: to };
+        }
+        if token.end <= p {
+            return Line { last, over: to };
+        }
+        last = word_end(token, last);
+        if 0 < places::feeds(s, p, token.end) {
+            return Line {
+                last,
+                over: token.end,
+            };
+        }
+        p = token.end;
+    }
+    Line { last, over: to }
 }
 
 // The end of the last such token that begins on the same line.
 fn last_word(s: &[u8], reading: Reading, from: usize, to: usize) -> Last {
-    let mut p = from;
-    let mut last = from;
-    let mut line_over = false;
-    while p < to {
-        let Read::Got { token } = lexer::next(s, reading, p) else {
-            return refused_word(last, to, line_over);
-        };
-        let kind = token.kind;
-        let end = token.span.end;
-        if end <= p {
-            return Last {
-                to: last,
-                more: false,
-            };
-        }
-        if !is_blank(kind) {
-            if line_over {
-                return Last {
-                    to: last,
-                    more: true,
-                };
-            }
-            last = end;
-        }
-        if 0 < places::feeds(s, p, end) {
-            line_over = true;
-        }
-        p = end;
-    }
+    let line = line_of(s, reading, from, to);
     Last {
-        to: last,
-        more: false,
+        to: line.last,
+        more: first_word(s, reading, line.over, to) < to,
     }
 }
 
@@ -165,14 +180,14 @@ pub(crate) fn is_bare(named: Named) -> bool {
     named.to <= named.from
 }
 
-pub(crate) fn put_named(out: &mut [u8], waiting: usize, s: &[u8], named: Named) -> usize {
-    let mut waiting = put(out, waiting, b'`');
-    waiting = put_shown(out, waiting, part(s, named.from, named.to));
-    waiting = put_if(out, waiting, named.cut, b" ..");
-    put(out, waiting, b'`')
+pub(crate) fn put_named(out: Page, s: &[u8], named: Named) -> Page {
+    let mut out = put(out, b'`');
+    out = put_shown(out, part(s, named.from, named.to));
+    out = put_if(out, named.cut, b" ..");
+    put(out, b'`')
 }
 
-pub(crate) fn put_all_named(out: &mut [u8], waiting: usize, s: &[u8], named: Named) -> usize {
-    let waiting = put_named(out, waiting, s, named);
-    put_if(out, waiting, named.more, b" and what follows it")
+pub(crate) fn put_all_named(out: Page, s: &[u8], named: Named) -> Page {
+    let out = put_named(out, s, named);
+    put_if(out, named.more, b" and what follows it")
 }

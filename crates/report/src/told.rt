@@ -15,61 +15,61 @@ use crate::ink::put_reset;
 use crate::notes::put_help;
 use crate::notes::put_note;
 use crate::template::put_template;
-use buffer::put;
-use buffer::put_bytes;
-use buffer::put_decimal;
+use buffer::page::Page;
+use buffer::page::put;
+use buffer::page::put_bytes;
+use buffer::page::put_decimal;
 use places::Place;
 use places::moved;
 use readers::Reading;
 
-fn put_place(out: &mut [u8], waiting: usize, p: Place) -> usize {
-    let mut waiting = put_decimal(out, waiting, p.line as u64);
-    waiting = put(out, waiting, b':');
-    put_decimal(out, waiting, p.column as u64)
+fn put_place(out: Page, p: Place) -> Page {
+    let mut out = put_decimal(out, p.line as u64);
+    out = put(out, b':');
+    put_decimal(out, p.column as u64)
 }
 
-fn put_where(out: &mut [u8], waiting: usize, file: &[u8], ink: u8, p: Place) -> usize {
-    let mut waiting = put_bold(out, waiting, ink);
-    waiting = put_bytes(out, waiting, file);
-    waiting = put(out, waiting, b':');
-    waiting = put_place(out, waiting, p);
-    waiting = put_reset(out, waiting, ink);
-    put_bytes(out, waiting, b": ")
+fn put_where(out: Page, file: &[u8], ink: u8, p: Place) -> Page {
+    let mut out = put_bold(out, ink);
+    out = put_bytes(out, file);
+    out = put(out, b':');
+    out = put_place(out, p);
+    out = put_reset(out, ink);
+    put_bytes(out, b": ")
 }
 
-fn put_code(out: &mut [u8], waiting: usize, ink: u8, number: u32) -> usize {
-    let mut waiting = put_ink(out, waiting, ink);
-    waiting = put_severity(out, waiting, severity_of(number));
-    waiting = put(out, waiting, b'[');
-    waiting = wordings::put_name(out, waiting, number);
-    waiting = put(out, waiting, b']');
-    put_reset(out, waiting, ink)
+fn put_code(out: Page, ink: u8, number: u32) -> Page {
+    let mut out = put_ink(out, ink);
+    out = put_severity(out, severity_of(number));
+    out = put(out, b'[');
+    out = wordings::put_name(out, number);
+    out = put(out, b']');
+    put_reset(out, ink)
 }
 
-fn put_head(out: &mut [u8], waiting: usize, file: &[u8], ink: u8, p: Place, number: u32) -> usize {
-    let mut waiting = put_where(out, waiting, file, ink, p);
-    waiting = put_code(out, waiting, ink, number);
-    waiting = put_bytes(out, waiting, b": ");
-    waiting = wordings::put_what(out, waiting, number);
-    put(out, waiting, b'\n')
+fn put_head(out: Page, file: &[u8], ink: u8, p: Place, number: u32) -> Page {
+    let mut out = put_where(out, file, ink, p);
+    out = put_code(out, ink, number);
+    out = put_bytes(out, b": ");
+    out = wordings::put_what(out, number);
+    put(out, b'\n')
 }
 
-fn put_as_code(out: &mut [u8], waiting: usize, s: &[u8], ink: u8, p: Place, f: Finding) -> usize {
+fn put_as_code(out: Page, s: &[u8], ink: u8, p: Place, f: Finding) -> Page {
     let sheet = Sheet {
         ink,
         width: digits_of(p.line),
     };
-    let mut waiting = put_mark(out, waiting, s, sheet, p.line, f.start, f.end);
-    waiting = put_label(out, waiting, sheet, b"rune reads this as code");
-    waiting = put_note(
+    let mut out = put_mark(out, s, sheet, p.line, f.start, f.end);
+    out = put_label(out, sheet, b"rune reads this as code");
+    out = put_note(
         out,
-        waiting,
         sheet,
         b"it looks like a part of the comment that begins at ",
     );
-    waiting = put_place(out, waiting, moved(s, p, f.from));
-    waiting = put(out, waiting, b'\n');
-    put_help(out, waiting, sheet, f.number)
+    out = put_place(out, moved(s, p, f.from));
+    out = put(out, b'\n');
+    put_help(out, sheet, f.number)
 }
 
 // A comment's or a template's opening, else the whole.
@@ -91,67 +91,57 @@ fn past(at: usize, count: usize) -> usize {
     at
 }
 
-fn put_opening_label(out: &mut [u8], waiting: usize, sheet: Sheet, number: u32) -> usize {
+fn put_opening_label(out: Page, sheet: Sheet, number: u32) -> Page {
     match number {
         63 => put_label(
             out,
-            waiting,
             sheet,
             b"all from here to the end of the file is comment",
         ),
         64 => put_label(
             out,
-            waiting,
             sheet,
             b"all from here to the end of the file is text of this template",
         ),
-        _ => put_label(out, waiting, sheet, b""),
+        _ => put_label(out, sheet, b""),
     }
 }
 
 // What an over-long source holds is not looked at.
-fn put_opened(
-    out: &mut [u8],
-    waiting: usize,
-    s: &[u8],
-    sheet: Sheet,
-    p: Place,
-    f: Finding,
-) -> usize {
+fn put_opened(out: Page, s: &[u8], sheet: Sheet, p: Place, f: Finding) -> Page {
     if f.number == 1 {
-        return waiting;
+        return out;
     }
-    let waiting = put_mark(out, waiting, s, sheet, p.line, f.start, mark_end(f));
-    put_opening_label(out, waiting, sheet, f.number)
+    let out = put_mark(out, s, sheet, p.line, f.start, mark_end(f));
+    put_opening_label(out, sheet, f.number)
 }
 
-fn put_plain(out: &mut [u8], waiting: usize, s: &[u8], ink: u8, p: Place, f: Finding) -> usize {
+fn put_plain(out: Page, s: &[u8], ink: u8, p: Place, f: Finding) -> Page {
     let sheet = Sheet {
         ink,
         width: digits_of(p.line),
     };
-    let waiting = put_opened(out, waiting, s, sheet, p, f);
-    put_help(out, waiting, sheet, f.number)
+    let out = put_opened(out, s, sheet, p, f);
+    put_help(out, sheet, f.number)
 }
 
 // A finding that stands at a place of a file's source, read in the reading in force.
 pub fn put_told(
-    out: &mut [u8],
-    waiting: usize,
+    out: Page,
     file: &[u8],
     s: &[u8],
     reading: Reading,
     colour: bool,
     p: Place,
     f: Finding,
-) -> usize {
+) -> Page {
     let number = f.number;
     let ink = ink_of(severity_of(number), colour);
-    let waiting = put_head(out, waiting, file, ink, p, number);
+    let out = put_head(out, file, ink, p, number);
     match number {
-        60 | 61 => put_comment(out, waiting, s, reading, ink, p, f),
-        160 | 161 => put_template(out, waiting, s, reading, ink, p, f),
-        62 => put_as_code(out, waiting, s, ink, p, f),
-        _ => put_plain(out, waiting, s, ink, p, f),
+        60 | 61 => put_comment(out, s, reading, ink, p, f),
+        160 | 161 => put_template(out, s, reading, ink, p, f),
+        62 => put_as_code(out, s, ink, p, f),
+        _ => put_plain(out, s, ink, p, f),
     }
 }

@@ -1,5 +1,5 @@
 -- The rows of a token list, three words a token (kind number, start, end), their faults, and the answer of what writes or reads them (document 01, "Stored token list").
-use Prim.Native.Nat.{ℕ, zero, suc, _+_, _/_, _%_}
+use Prim.Native.Nat.{ℕ, zero, suc, _+_, _*_, _/_, _%_}
 use mathlib.Core.List.{List, [], _∷_}
 use mathlib.Core.Bool.{Bool, true}
 use lib.Dec.{leb, ltb, eqb}
@@ -18,6 +18,18 @@ pub record Row : Type 0 where
   pub start : ℕ
   pub end : ℕ
 
+-- a token takes three words of a list: its kind's number, its start and its end
+abbrev pub rowSize : ℕ
+rowSize = 3
+
+-- so those of token i begin here
+abbrev pub rowPlace : ℕ → ℕ
+rowPlace i = i * rowSize
+
+-- the words of a token, and more after them
+abbrev pub rowWords : ℕ → ℕ → ℕ → List ℕ → List ℕ
+rowWords kind start end more = kind ∷ (start ∷ (end ∷ more))
+
 -- three words, which have no mark to miss
 abbrev pub wordRow : List ℕ → Row
 wordRow l = record { marked = true; kind = getD l 0 0; start = getD l 1 0; end = getD l 2 0 }
@@ -28,7 +40,7 @@ rowsOf row size zero s = []
 rowsOf row size (suc n) s = row s ∷ rowsOf row size n (drop size s)
 
 abbrev pub listRows : List ℕ → List Row
-listRows l = rowsOf wordRow 3 (length l / 3) l
+listRows l = rowsOf wordRow rowSize (length l / rowSize) l
 
 -- 42: a kind outside 1 to 66. 43: a record that does not start where the one before ended, or whose end is not past its start
 unfoldable pub recordCheck : ℕ → ℕ → ℕ → ℕ → ℕ → Checked
@@ -52,7 +64,7 @@ rowsCheck n last (r ∷ rs) = andThen (rowCheck n last r) (rowsCheck (n + 1) (r 
 
 -- 40, first: a length that is no whole number of rows. The first row starts at 0
 unfoldable pub listCheck : List ℕ → Checked
-listCheck l = pick (eqb (length l % 3) 0) (rowsCheck 0 0 (listRows l)) (Faulty (pointRefusal 40 0))
+listCheck l = pick (eqb (length l % rowSize) 0) (rowsCheck 0 0 (listRows l)) (Faulty (pointRefusal 40 0))
 
 -- 3, last: what is to be written does not fit
 abbrev pub storedIn : ℕ → Checked → List ℕ → Stored

@@ -1,6 +1,5 @@
 // A token list row by row: its first refusal, proved equal to the definition, and the answer of what writes or reads it.
 use token::Refusal;
-use token::Span;
 use token::refusal::BAD_KIND;
 use token::refusal::BAD_LENGTH;
 use token::refusal::GAP;
@@ -8,6 +7,9 @@ ghost use mathlib.Core.Path.{_≡_};
 ghost use Rattle.rows.specs.Rows.{listCheck, recordCheck};
 ghost use Rattle.rows.specs.declared.Checked.the-variants.{Faulty};
 ghost use Rattle.token.specs.Reads.{pointRefusal};
+
+// How many words a token takes in a list: its kind's number, its start and its end.
+pub const ROW: usize = 3;
 
 pub enum Checked {
     Good,
@@ -20,22 +22,13 @@ pub enum Stored {
     Refused { refusal: Refusal },
 }
 
-// A refusal that names the record n.
-pub fn refusal_at(number: u32, n: usize) -> Refusal
-    ensures { λ r. ⌜ r ≡ pointRefusal number n ⌝ }
-{
-    Refusal {
-        number,
-        span: Span { start: n, end: n },
-        reached: n,
-    }
-}
-
+// A fault of the record n.
 pub fn faulty(number: u32, n: usize) -> Checked
     ensures { λ r. ⌜ r ≡ Faulty (pointRefusal number n) ⌝ }
 {
-    let refusal = refusal_at(number, n);
-    Checked::Faulty { refusal }
+    Checked::Faulty {
+        refusal: token::point(number, n),
+    }
 }
 
 // The record n, where the one before ended at `last`.
@@ -60,7 +53,7 @@ pub fn check_record(n: usize, last: u32, kind: u32, start: u32, end: u32) -> Che
 pub fn check_list(list: &[u32]) -> Checked
     ensures { λ r. ⌜ r ≡ listCheck (now (list .entry)) ⌝ }
 {
-    if list.len() % 3 != 0 {
+    if list.len() % ROW != 0 {
         return faulty(BAD_LENGTH, 0);
     }
     let mut at: usize = 0;
@@ -72,7 +65,7 @@ pub fn check_list(list: &[u32]) -> Checked
         let Checked::Good = checked else {
             return checked;
         };
-        at = at + 3;
+        at = at + ROW;
         n = n + 1;
         last = end;
     }

@@ -22,8 +22,8 @@ fill('low_end', {
     'returns-2': 'omega (arith, low-few (bareOf (drop $p$ $s$)), @loop .inv .0, @loop .inv .1, @loop-test .left)'},
     macros=dict(S, more='(omega (arith, @loop .inv .0, @loop-test .taken))'))
 fill('run_end', {
-    'returns': '@low-end .ensures ∙ ap (λ (b : Bool). $at$ + length (runOf b (drop $at$ $s$))) (sym (@if1 .taken))',
-    'returns-2': '@bare-end .ensures ∙ ap (λ (b : Bool). $at$ + length (runOf b (drop $at$ $s$))) (sym (@if1 .left))'},
+    'returns': '@low-end .ensures ∙ ap (λ (b : Bool). $at$ + length (plainEnd b (drop $at$ $s$))) (sym (@if1 .taken))',
+    'returns-2': '@bare-end .ensures ∙ ap (λ (b : Bool). $at$ + length (plainEnd b (drop $at$ $s$))) (sym (@if1 .left))'},
     macros=S)
 fill('escaped_at', {
     'returns': 'escaped-end _ _ (@if1 .taken)',

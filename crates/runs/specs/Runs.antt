@@ -22,8 +22,8 @@ asciiOf [] = []
 asciiOf (b ∷ s) = elim (leb b 0x7f) [ true ↦ b ∷ asciiOf s | false ↦ [] ]
 
 -- the bytes that stand for themselves, in bytes or in text
-abbrev pub runOf : Bool → List ℕ → List ℕ
-runOf bytes s = pick bytes (asciiOf (bareOf s)) (bareOf s)
+abbrev pub plainEnd : Bool → List ℕ → List ℕ
+plainEnd bytes s = pick bytes (asciiOf (bareOf s)) (bareOf s)
 
 -- the byte after a backslash at a place, 0 where none stands there
 unfoldable pub escapedAt : List ℕ → ℕ → ℕ

@@ -7,7 +7,7 @@ use text::byte_at;
 ghost use Prim.Native.Nat.{_+_};
 ghost use mathlib.Core.Path.{_≡_};
 ghost use lib.ListN.{drop, length};
-ghost use Rattle.runs.specs.Runs.{asciiOf, bareOf, beginsOf, escapedAt, limitOf, runOf, shortOf};
+ghost use Rattle.runs.specs.Runs.{asciiOf, bareOf, beginsOf, escapedAt, limitOf, plainEnd, shortOf};
 ghost use Rattle.text.specs.Utf8.{rest};
 
 // The place of the first backslash, or the end. One test a loop: with two in one loop the code is longer than that of two loops.
@@ -16,7 +16,7 @@ fn bare_end(s: &[u8], at: usize) -> usize
 {
     let mut p = at;
     while p < s.len() {
-        if s[p] == 0x5c {
+        if s[p] == b'\\' {
             return p;
         }
         p = p + 1;
@@ -41,7 +41,7 @@ fn low_end(s: &[u8], at: usize, end: usize) -> usize
 
 // Where the bytes end that stand for themselves.
 pub fn run_end(s: &[u8], at: usize, bytes: bool) -> usize
-    ensures { λ r. ⌜ r ≡ at + length (runOf bytes (drop at (now (s .entry)))) ⌝ }
+    ensures { λ r. ⌜ r ≡ at + length (plainEnd bytes (drop at (now (s .entry)))) ⌝ }
 {
     let end = bare_end(s, at);
     if bytes {
@@ -57,7 +57,7 @@ pub fn escaped_at(s: &[u8], at: usize) -> u8
     if s.len() <= at {
         return 0;
     }
-    if s[at] != 0x5c {
+    if s[at] != b'\\' {
         return 0;
     }
     byte_at(s, at + 1)

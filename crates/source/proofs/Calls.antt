@@ -4,7 +4,7 @@ use mathlib.Core.Path.{_≡_}
 use mathlib.Core.List.{List}
 use denote.Ref.{RefT}
 use Rattle.laws.proofs.Determined.{determined, determined-both}
-use Rattle.source.specs.Reader.{movedOf, newOf, nextOf, peek2Of, peekOf, posOf}
+use Rattle.source.specs.Reader.{movedOf, newOf, nextScalarOf, peek2Of, peekOf, posOf}
 use Rattle.source.specs.declared.Source.{Source}
 use Rattle.text.specs.declared.utf8.Scalar.{Scalar}
 
@@ -21,5 +21,5 @@ module _ (it : Source) where
   pub peek2-determined : (r q : Scalar) → r ≡ peek2Of it → q ≡ peek2Of it → r ≡ q
   peek2-determined r q h k = determined r q h k
 
-  pub next-determined : (r q : Scalar) (v w : Source) → (v ≡ movedOf it) × (r ≡ nextOf it) → (w ≡ movedOf it) × (q ≡ nextOf it) → (v ≡ w) × (r ≡ q)
+  pub next-determined : (r q : Scalar) (v w : Source) → (v ≡ movedOf it) × (r ≡ nextScalarOf it) → (w ≡ movedOf it) × (q ≡ nextScalarOf it) → (v ≡ w) × (r ≡ q)
   next-determined r q v w h k = determined-both v w r q h k

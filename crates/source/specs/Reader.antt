@@ -9,13 +9,13 @@ use Rattle.text.specs.declared.utf8.Scalar.{Scalar}
 use Rattle.text.specs.declared.utf8.Scalar.the-variants.{None, One}
 
 -- on a slice and a number: the place after an answer; where there is no scalar, the same place
-abbrev pub placeAfter : Scalar → ℕ → ℕ
-placeAfter (One v n) at = n
-placeAfter None at = at
+abbrev pub afterScalar : Scalar → ℕ → ℕ
+afterScalar (One v n) at = n
+afterScalar None at = at
 
 -- on a slice and a number: the scalar at a place, or none, and the place after it
 abbrev pub stepAt : List ℕ → ℕ → Step
-stepAt s at = record { scalar = scalarAt s at; at = placeAfter (scalarAt s at) at }
+stepAt s at = record { scalar = scalarAt s at; at = afterScalar (scalarAt s at) at }
 
 -- a new reader stands at place 0
 abbrev pub newOf : RefT (List ℕ) → Source
@@ -34,8 +34,8 @@ abbrev pub peek2Of : Source → Scalar
 peek2Of it = secondAt (it .src .now) (it .at)
 
 -- next answers the scalar where it stands
-abbrev pub nextOf : Source → Scalar
-nextOf it = stepAt (it .src .now) (it .at) .scalar
+abbrev pub nextScalarOf : Source → Scalar
+nextScalarOf it = stepAt (it .src .now) (it .at) .scalar
 
 -- .. and then the reader of the same source stands after that scalar; at the end it stays
 abbrev pub movedOf : Source → Source

@@ -1,7 +1,7 @@
 // A thin reader that holds the source and a place in it, as the Rust's SourceIter does, over functions on a slice and a number.
 use text::Scalar;
 ghost use mathlib.Core.Path.{_≡_};
-ghost use Rattle.source.specs.Reader.{movedOf, newOf, nextOf, peek2Of, peekOf, posOf, stepAt};
+ghost use Rattle.source.specs.Reader.{movedOf, newOf, nextScalarOf, peek2Of, peekOf, posOf, stepAt};
 
 pub struct Source<'a> {
     src: &'a [u8],
@@ -50,7 +50,7 @@ impl<'a> Source<'a> {
     }
 
     pub fn next(&mut self) -> Scalar
-        ensures { λ r. ⌜ (now (self .exit) ≡ movedOf (now (self .entry))) × (r ≡ nextOf (now (self .entry))) ⌝ }
+        ensures { λ r. ⌜ (now (self .exit) ≡ movedOf (now (self .entry))) × (r ≡ nextScalarOf (now (self .entry))) ⌝ }
     {
         let step = step_at(self.src, self.at);
         self.at = step.at;

@@ -6,8 +6,8 @@ use lib.Seq.{sets}
 use lib.ListN.{length}
 use Rattle.laws.proofs.Determined.{determined-both}
 use Rattle.rows.specs.declared.Stored.{Stored}
-use Rattle.stored_reader.specs.Reader.{readBy, readOf}
-use Rattle.stored_writer.specs.Writer.{writeOf, writtenBy}
+use Rattle.storage.specs.Reader.{readBy, readOf}
+use Rattle.storage.specs.Writer.{writeOf, writtenBy}
 
 module _ (l out : List ℕ) (r q : Stored) (v w : List ℕ) where
   pub write-determined : (r ≡ writeOf l (length out)) × (v ≡ sets out 0 (writtenBy l (length out))) → (q ≡ writeOf l (length out)) × (w ≡ sets out 0 (writtenBy l (length out))) → (r ≡ q) × (v ≡ w)

@@ -2,7 +2,7 @@
 use mathlib.Core.Path.{_≡_, refl}
 use mathlib.Core.List.{[], _∷_}
 use Rattle.rows.specs.Rows.{listCheck, recordCheck, rowsCheck, rowsOf}
-use Rattle.stored_writer.specs.Writer.{recordsOf, writeOf, writtenBy}
+use Rattle.storage.specs.Writer.{recordsOf, writeOf, writtenBy}
 
 -- `a` is one word token from 0 to 1
 pub stored-a : writtenBy (6 ∷ 0 ∷ 1 ∷ []) 11 ≡ 0x54 ∷ 0x4b ∷ 0x06 ∷ 0x00 ∷ 0x00 ∷ 0x00 ∷ 0x00 ∷ 0x01 ∷ 0x00 ∷ 0x00 ∷ 0x00 ∷ []

@@ -1,4 +1,4 @@
--- Demand 3, `store-round`: what was written is read back, and what was read is written back, exactly. Assumes nothing.
+-- Document 01, "Stored token list": what was written is read back, and what was read is written back, exactly. Assumes nothing.
 use Prim.Native.Nat.{ℕ, zero, suc, _+_, _*_, _/_, _%_, _≤_, _<_}
 use mathlib.Core.Path.{_≡_, refl, sym, ap, _∙_, subst}
 use mathlib.Core.List.{List, [], _∷_, _++_}
@@ -17,11 +17,11 @@ use Rattle.rows.specs.declared.Checked.{Checked}
 use Rattle.rows.specs.declared.Checked.the-variants.{Faulty, Good}
 use Rattle.rows.specs.declared.Stored.{Stored}
 use Rattle.rows.specs.declared.Stored.the-variants.{Done}
+use Rattle.storage.proofs.ReadRecords.{bytes-checked, bytes-sound, length-tokens}
+use Rattle.storage.proofs.WrittenRecords.{length-records, recordIn}
+use Rattle.storage.specs.Reader.{byteRow, bytesCheck, listWords, readBy, readOf, storedRows, tokenWords, u32Of}
 use Rattle.storage.specs.Storage.{Below}
-use Rattle.stored_reader.proofs.Records.{bytes-checked, bytes-sound, length-tokens}
-use Rattle.stored_reader.specs.Reader.{byteRow, bytesCheck, listWords, readBy, readOf, storedRows, tokenWords, u32Of}
-use Rattle.stored_writer.proofs.Records.{length-records, recordIn}
-use Rattle.stored_writer.specs.Writer.{recordsOf, u32Bytes, writeOf, writtenBy}
+use Rattle.storage.specs.Writer.{recordsOf, u32Bytes, writeOf, writtenBy}
 use Rattle.token.specs.Reads.{pointRefusal}
 use Rattle.token.specs.declared.read.Refusal.{Refusal}
 

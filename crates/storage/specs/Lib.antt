@@ -1,1 +1,3 @@
+pub mod Writer
+pub mod Reader
 pub mod Storage

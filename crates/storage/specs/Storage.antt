@@ -1,4 +1,4 @@
--- What the laws of the stored list suppose of its numbers.
+-- No rule of document 01, for theorems: what the laws of the stored list suppose of its numbers.
 use Prim.Native.Nat.{ℕ, _<_}
 use mathlib.Core.List.{List}
 use lib.ListN.{getD}

@@ -1,4 +1,7 @@
-// The stored token list: the writer and the reader, and the laws over both. There is no code here.
+// The stored token list: the writer and the reader.
+mod reader;
+mod writer;
+
+pub use reader::read;
 pub use rows::Stored;
-pub use stored_reader::read;
-pub use stored_writer::write;
+pub use writer::write;

@@ -1,5 +1,8 @@
 // Bytes, strings and byte strings, from after their opening on.
 use text::Scalar;
+use text::character::BACKSLASH;
+use text::character::DOUBLE_QUOTE;
+use text::character::QUOTE;
 use token::Kind;
 use token::Read;
 use token::refusal::EXPECTED_BYTE_CLOSE;
@@ -26,7 +29,7 @@ pub fn next_lit_byte(s: &[u8], start: usize, at: usize) -> Read
         let Scalar::One { value, next } = text::scalar_at(s, p) else {
             return token::refused(EXPECTED_BYTE_CLOSE, start, p, p);
         };
-        if value == 92 {
+        if value == BACKSLASH {
             let Scalar::One {
                 value: _,
                 next: after,
@@ -36,7 +39,7 @@ pub fn next_lit_byte(s: &[u8], start: usize, at: usize) -> Read
             };
             p = after;
         } else {
-            if value == 39 {
+            if value == QUOTE {
                 return token::got(Kind::Byte, start, next);
             }
             if classes::is_control(value) {
@@ -77,10 +80,10 @@ pub fn next_str(s: &[u8], bytes: bool, start: usize, at: usize) -> Read
         let Scalar::One { value, next } = text::scalar_at(s, p) else {
             return token::refused(str_number(bytes), start, p, p);
         };
-        if value == 34 {
+        if value == DOUBLE_QUOTE {
             return token::got(str_kind(bytes, escaped), start, next);
         }
-        if value == 92 {
+        if value == BACKSLASH {
             let Scalar::One {
                 value: _,
                 next: after,

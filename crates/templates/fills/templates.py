@@ -3,7 +3,7 @@ M = {'s': '(@Start .args .s .now)', 'g': '(@Start .args .reading)', 'at': '(@Sta
      'step': '(step-one $s$ $at$ $v$ $n$ (sym (@scalar-at .ensures) ∙ @value .given .1))',
      'none': '(step-none $s$ $at$ (sym (@scalar-at .ensures) ∙ @enum-told .given .1))'}
 B = dict(M, at='(@loop .p)', l='(@loop .level)', t='(tokenOf (rulesOf $g$) $d$)',
-         body='$g$ $t$ $a$ $s$ $at$ $l$ $v$ $n$ $step$', go='bodyOf (rulesOf $g$) $t$ $a$ 0 $cs$ $n$',
+         body='$g$ $t$ $a$ $s$ $at$ $l$ $v$ $n$ $step$', go='templateBody (rulesOf $g$) $t$ $a$ 0 $cs$ $n$',
          tok='$g$ $d$ $a$ $s$ $at$ $l$ $v$ $n$ $step$ (@if5 .taken) (@read-token .result) (@read-token .ensures)')
 less = 'let k = $step$ in omega arith'
 cycle('+read_template+read_token', {
@@ -14,7 +14,7 @@ cycle('+read_template+read_token', {
         'read-template-requires': '(omega arith, tt)',
         'returns-4': '@read-template .ensures ∙ deep-some $g$ $d$ $at$ $cs$ $n$ (@if2 .left) ∙ token-deep $g$ $d$ $s$ $at$ $v$ $n$ $step$ (@if1 .left)'}, M),
     'read_template': ('read-template-', {
-        'Inv-loop': '(bodyOf (rulesOf reading) (tokenOf (rulesOf reading) depth) start 0 (rest s p) p level ≡ templateOf (rulesOf reading) (tokenOf (rulesOf reading) depth) start (rest s at) at) × (level < 4294967296)',
+        'Inv-loop': '(templateBody (rulesOf reading) (tokenOf (rulesOf reading) depth) start 0 (rest s p) p level ≡ templateOf (rulesOf reading) (tokenOf (rulesOf reading) depth) start (rest s at) at) × (level < 4294967296)',
         'μ-loop': 'length s - p',
         'loop-holds': ('templateOf', '(refl, omega arith)'),
         'returns': '@got .ensures ∙ body-end $g$ $t$ $a$ $s$ $at$ $l$ $none$ ∙ @loop .inv .0',

@@ -2,6 +2,10 @@
 use choice::read_first;
 use readers::Reading;
 use text::Scalar;
+use text::character::BACKSLASH;
+use text::character::BACKTICK;
+use text::character::CLOSE_BRACE;
+use text::character::OPEN_BRACE;
 use token::Kind;
 use token::Read;
 use token::refusal::TOO_DEEP;
@@ -17,7 +21,7 @@ pub fn read_token(s: &[u8], reading: Reading, at: usize, depth: u32) -> Read
     let Scalar::One { value, next } = text::scalar_at(s, at) else {
         return token::got(Kind::Eof, at, at);
     };
-    if value != 96 {
+    if value != BACKTICK {
         return read_first(s, reading, value, at, next);
     }
     if depth == 0 {
@@ -36,18 +40,18 @@ fn read_template(s: &[u8], reading: Reading, start: usize, at: usize, depth: u32
         let Scalar::One { value, next } = text::scalar_at(s, p) else {
             return token::got(Kind::Template { closed: false }, start, p);
         };
-        if value == 96 {
+        if value == BACKTICK {
             if level == 0 {
                 return token::got(Kind::Template { closed: true }, start, next);
             }
             p = next;
-        } else if value == 123 {
+        } else if value == OPEN_BRACE {
             level = std::num::wrapping_add_u32(level, 1);
             p = next;
-        } else if value == 125 {
+        } else if value == CLOSE_BRACE {
             level = std::num::wrapping_sub_u32(level, 1);
             p = next;
-        } else if value == 92 {
+        } else if value == BACKSLASH {
             match read_token(s, reading, next, depth) {
                 Read::Got { token } => {
                     p = token.span.end;

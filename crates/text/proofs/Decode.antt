@@ -10,7 +10,8 @@ use lib.ListN.{List·getD-eq-default, drop, drop-of-length-le, getD, length, len
 use borrow.Author.Tests.{le-leb}
 use Rattle.laws.proofs.Cases.{never, split, split-eq, split-le}
 use Rattle.text.proofs.Leads.{Whole, lead-whole, tail-inv, value-zero, wide-lead, width-1}
-use Rattle.text.specs.Utf8.{Lead, after, bad, decode, first, from, headAt, leadOf, rest, scalarAt, secondAt, secondOf, seq, stepOf, tail, valueOf, wideOf, width}
+use Rattle.text.specs.Utf8.{Lead, after, bad, decode, first, from, headAt, leadOf, rest, scalarAt, secondAt, secondOf, seq, tail, width}
+use Rattle.text.specs.Wide.{stepOf, valueOf, wideOf}
 use Rattle.text.specs.declared.utf8.Scalar.the-variants.{None, One}
 
 -- a scalar v stands at a place, and the scalars go on at n

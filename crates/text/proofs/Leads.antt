@@ -7,7 +7,8 @@ use lib.Dec.{leb, eqb}
 use borrow.Author.Tests.{eq-eqb, le-leb, leb-false, leb-true, lt-leb, ne-eqb}
 use Rattle.laws.proofs.Cases.{both-inv, both-true, never, split, split-eq, within-high, within-inv, within-low, within-yes}
 use Rattle.laws.specs.Bools.{both, pick, within}
-use Rattle.text.specs.Utf8.{fourOf, highOf, leadOf, lowOf, secondFits, seq, seqIf, stepOf, tail, threeOf, twoOf, valueOf, wideOf, width}
+use Rattle.text.specs.Utf8.{fourOf, highOf, leadOf, lowOf, secondFits, seq, seqIf, tail, threeOf, twoOf, width}
+use Rattle.text.specs.Wide.{stepOf, valueOf, wideOf}
 
 pub tail-inv : (b : ℕ) → tail b ≡ true → (0x80 ≤ b) × (b ≤ 0xbf)
 tail-inv b h = within-inv 0x80 0xbf b h

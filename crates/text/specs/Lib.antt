@@ -1,1 +1,3 @@
+pub mod Characters
 pub mod Utf8
+pub mod Wide

@@ -90,14 +90,3 @@ secondOf (v ∷ cs) p = headAt cs (p + width v)
 
 unfoldable pub secondAt : List ℕ → ℕ → Scalar
 secondAt s at = secondOf (rest s at) at
-
--- the scalar of a sequence of two bytes or more by value, 0 where there is none; its length, by its first byte
-abbrev pub valueOf : Lead → ℕ
-valueOf (seq v e) = v
-valueOf bad = 0
-
-unfoldable pub wideOf : ℕ → ℕ → ℕ → ℕ → ℕ
-wideOf a b c d = valueOf (pick (leb a 0xdf) (twoOf a b) (pick (leb a 0xef) (threeOf a b c) (fourOf a b c d)))
-
-abbrev pub stepOf : ℕ → ℕ
-stepOf a = pick (leb a 0xdf) 2 (pick (leb a 0xef) 3 4)

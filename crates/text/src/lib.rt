@@ -1,4 +1,5 @@
 // UTF-8 by RFC 3629, over byte slices: every call is total, writes nothing and equals its definition in specs/.
+pub mod character;
 mod utf8;
 
 pub use utf8::Scalar;

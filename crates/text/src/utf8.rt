@@ -1,7 +1,8 @@
 // The scalar at a position. ASCII goes first and short, so that `scalar_at` is inlined into every reader; `wide` stays out of line.
 ghost use mathlib.Core.Path.{_≡_};
 ghost use lib.ListN.{getD};
-ghost use Rattle.text.specs.Utf8.{fourOf, scalarAt, secondAt, secondFits, stepOf, tail, threeOf, twoOf, valueOf, wideOf};
+ghost use Rattle.text.specs.Utf8.{fourOf, scalarAt, secondAt, secondFits, tail, threeOf, twoOf};
+ghost use Rattle.text.specs.Wide.{stepOf, valueOf, wideOf};
 
 // What stands at a position: a scalar and the place after it, or nothing (the end, or an ill-formed sequence).
 pub enum Scalar {

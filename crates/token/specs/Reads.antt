@@ -26,6 +26,11 @@ refusedOf number start end reached = Refused (record { number = number; span = s
 abbrev pub pointRefusal : ℕ → ℕ → Refusal
 pointRefusal number p = record { number = number; span = pointOf p; reached = p }
 
+-- the refusal that was answered; of a token none, which is number 0 at its end
+abbrev pub refusalIn : Read → Refusal
+refusalIn (Got k) = pointRefusal 0 (k .span .end)
+refusalIn (Refused r) = r
+
 -- the place that reading reached: a token's end, or a refusal's own
 abbrev pub reachedOf : Read → ℕ
 reachedOf (Got k) = k .span .end

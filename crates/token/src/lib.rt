@@ -11,4 +11,6 @@ pub use read::Refusal;
 pub use read::Span;
 pub use read::Token;
 pub use read::got;
+pub use read::point;
+pub use read::refusal_in;
 pub use read::refused;

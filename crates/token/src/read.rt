@@ -1,7 +1,7 @@
 // A token with its span, a refusal with its number, span and the place reached, and what reading at a place answers.
 use crate::kind::Kind;
 ghost use mathlib.Core.Path.{_≡_};
-ghost use Rattle.token.specs.Reads.{gotOf, refusedOf};
+ghost use Rattle.token.specs.Reads.{gotOf, pointRefusal, refusalIn, refusedOf};
 
 // Bytes from start to before end; a point where the two are equal.
 pub struct Span {
@@ -36,6 +36,17 @@ pub fn got(kind: Kind, start: usize, end: usize) -> Read
     }
 }
 
+// A refusal of a place or of a record alone.
+pub fn point(number: u32, at: usize) -> Refusal
+    ensures { λ r. ⌜ r ≡ pointRefusal number at ⌝ }
+{
+    Refusal {
+        number,
+        span: Span { start: at, end: at },
+        reached: at,
+    }
+}
+
 pub fn refused(number: u32, start: usize, end: usize, reached: usize) -> Read
     ensures { λ r. ⌜ r ≡ refusedOf number start end reached ⌝ }
 {
@@ -45,5 +56,15 @@ pub fn refused(number: u32, start: usize, end: usize, reached: usize) -> Read
             span: Span { start, end },
             reached,
         },
+    }
+}
+
+// The refusal of an answer that was taken apart and is no token; of a token, one with number 0.
+pub fn refusal_in(answer: Read) -> Refusal
+    ensures { λ r. ⌜ r ≡ refusalIn answer ⌝ }
+{
+    match answer {
+        Read::Refused { refusal } => refusal,
+        Read::Got { token } => point(0, token.span.end),
     }
 }

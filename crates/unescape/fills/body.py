@@ -131,9 +131,6 @@ fill('body/unescape_sound', {
 fill('body/unescape', {
     'unescape-sound-requires': 'sound-inv (@Start .args .body .now) (sym (@test-source .ensures) ∙ @enum-told .given .1) .1',
     'returns': '(@unescape-sound .ensures .0 ∙ sym (ap (λ (r : Result). r .answer) $sound$), @unescape-sound .ensures .1 ∙ sym (ap (λ (r : Result). sets (@Start .args .out .now) 0 (r .bytes)) $sound$))',
-    'returns-2': '(@refuse .ensures ∙ refused-answer _ _ _ _ $long$, refused-store _ _ _ _ _ $long$)',
-    'returns-3': '(@refuse2 .ensures ∙ refused-answer _ _ _ _ $ill$, refused-store _ _ _ _ _ $ill$)',
-    'returns-4': '(@refuse3 .ensures ∙ refused-answer _ _ _ _ $misplaced$, refused-store _ _ _ _ _ $misplaced$)'},
+    'returns-2': '(sym (ap (λ (r : Result). r .answer) $refused$), sym (ap (λ (r : Result). sets (@Start .args .out .now) 0 (r .bytes)) $refused$))'},
     macros={'tested': '(@Start .args .form) (@Start .args .body .now) (length (@Start .args .out .now)) _ (@test-source .ensures)',
-            'sound': '(source-sound $tested$ (@enum-told .given .1))', 'long': '(source-long $tested$ (@enum-told2 .given .1))',
-            'ill': '(source-ill $tested$ _ (@at .given .1))', 'misplaced': '(source-misplaced $tested$ _ (@at2 .given .1))'})
+            'sound': '(source-sound $tested$ (@enum-told .given .1))', 'refused': '(source-refused $tested$ (@refusal .given .0 .0) (@refusal .given .1))'})

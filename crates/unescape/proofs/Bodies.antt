@@ -18,12 +18,14 @@ use Rattle.items.specs.Items.{itemOf}
 use Rattle.items.specs.declared.Form.{Form}
 use Rattle.laws.proofs.Cases.{never}
 use Rattle.laws.specs.Bools.{pick}
-use Rattle.sound.specs.Source.{sourceTest}
-use Rattle.sound.specs.declared.Tested.{Tested}
-use Rattle.sound.specs.declared.Tested.the-variants.{IllFormed, Misplaced, Sound, TooLong}
+use Rattle.source_test.specs.Source.{sourceTest}
+use Rattle.source_test.specs.declared.Tested.{Tested}
+use Rattle.source_test.specs.declared.Tested.the-variants.{Sound, Unsound}
 use Rattle.text.proofs.Decode.{Step, after-step, rest-tail, width-pos}
 use Rattle.text.specs.Utf8.{after, rest, width}
-use Rattle.unescape.specs.Bodies.{Body, Ending, Result, also, bodyOf, fault, judge, measuredOf, noMore, readOf, refuse, refusedAt, turnOf, unescapeOf, whole, writtenOf, wrongCount, wrote}
+use Rattle.token.specs.declared.read.Refusal.{Refusal}
+use Rattle.unescape.specs.Bodies.{Body, Ending, Result, also, bodyOf, fault, itemTurn, itemsBytes, judge, noMore, refuse, refusedAt, refuseWith, unescapeOf, unescapedOf, whole, wrongCount, wrote}
+use Rattle.unescape.specs.Measures.{measuredOf}
 use Rattle.unescape.specs.declared.body.Measured.{Measured}
 use Rattle.unescape.specs.declared.body.Measured.the-variants.{Stopped, Whole}
 use Rattle.unescape.specs.declared.body.Unescaped.the-variants.{Wrote}
@@ -63,12 +65,12 @@ module _ (form : Form) (s : List ℕ) (p v n : ℕ) (t : Step s p v n) (e : Esca
   found : e ≡ itemOf form v (rest s n) (p + width v)
   found = q ∙ ap (itemOf form v (rest s n)) (t .next)
 
-  turn : bodyAt form s p ≡ turnOf p e (λ k. bodyOf form k (rest s n) n)
+  turn : bodyAt form s p ≡ itemTurn p e (λ k. bodyOf form k (rest s n) n)
   unfolding bodyOf
   turn =
       rw (t .here) (rw (le-ltb p 0 (omega arith), bodyOf)
-      (sym (ap (λ (x : Escape). turnOf p x (λ k. bodyOf form k (rest s n) n)) q
-      ∙ ap (λ (m : ℕ). turnOf p (itemOf form v (rest s n) m) (λ k. bodyOf form k (rest s n) m)) (t .next))))
+      (sym (ap (λ (x : Escape). itemTurn p x (λ k. bodyOf form k (rest s n) n)) q
+      ∙ ap (λ (m : ℕ). itemTurn p (itemOf form v (rest s n) m) (λ k. bodyOf form k (rest s n) m)) (t .next))))
 
   lands : Lands (rest s n) n (placeOf e)
   lands = subst (λ (x : Escape). Lands (rest s n) n (placeOf x)) (sym q) (item-lands form v (rest s n) n)
@@ -86,15 +88,15 @@ module _ (form : Form) (s : List ℕ) (p v n : ℕ) (t : Step s p v n) (e : Esca
   go-on r h = body-skip form s (rest s n) n r refl (subst (λ (x : ℕ). Lands (rest s n) n x) (sym h) lands)
 
   pub body-item : (x m : ℕ) → e ≡ Item x m → bodyAt form s p ≡ also x (bodyAt form s m)
-  unfolding turnOf
+  unfolding itemTurn
   body-item x m h = turn ∙ rw h (ap (also x) (go-on m (sym (ap placeOf h))))
 
   pub body-skipped : (m : ℕ) → e ≡ Skipped m → bodyAt form s p ≡ bodyAt form s m
-  unfolding turnOf
+  unfolding itemTurn
   body-skipped m h = turn ∙ rw h (go-on m (sym (ap placeOf h)))
 
   pub body-bad : (number m : ℕ) → e ≡ Bad number m → bodyAt form s p ≡ noMore (fault number p m)
-  unfolding turnOf
+  unfolding itemTurn
   body-bad number m h = turn ∙ rw h
 
   pub fits-here : (x m : ℕ) → e ≡ Item x m → Fits form p x m
@@ -106,19 +108,19 @@ by-ending (fault number start end) f g = g number start end refl
 
 -- the answer, of how the items end
 module _ (form : Form) (s : List ℕ) (room : ℕ) where
-  pub read-fault : (number start end : ℕ) → bodyAt form s 0 .ending ≡ fault number start end → readOf form s room ≡ refuse number start end
-  unfolding readOf judge
+  pub read-fault : (number start end : ℕ) → bodyAt form s 0 .ending ≡ fault number start end → unescapedOf form s room ≡ refuse number start end
+  unfolding unescapedOf judge
   read-fault number start end e = rw (e, judge)
 
-  pub read-whole : bodyAt form s 0 .ending ≡ whole → readOf form s room
+  pub read-whole : bodyAt form s 0 .ending ≡ whole → unescapedOf form s room
       ≡ pick (wrongCount form (length (bodyAt form s 0 .items))) (refuse 27 0 (length s))
-      (pick (ltb room (length (writtenOf form (bodyAt form s 0 .items)))) (refuse 26 0 (length s)) (wrote (writtenOf form (bodyAt form s 0 .items))))
-  unfolding readOf judge
+      (pick (ltb room (length (itemsBytes form (bodyAt form s 0 .items)))) (refuse 26 0 (length s)) (wrote (itemsBytes form (bodyAt form s 0 .items))))
+  unfolding unescapedOf judge
   read-whole e = rw (e, judge)
 
 -- .. and of what was measured
 module _ (form : Form) (s : List ℕ) (room : ℕ) (m : Measured) (q : m ≡ measuredOf form 0 (bodyAt form s 0)) where
-  pub read-stopped : (number start end : ℕ) → m ≡ Stopped number start end → readOf form s room ≡ refuse number start end
+  pub read-stopped : (number start end : ℕ) → m ≡ Stopped number start end → unescapedOf form s room ≡ refuse number start end
   unfolding measuredOf
   read-stopped number start end h =
       by-ending (bodyAt form s 0 .ending)
@@ -131,48 +133,40 @@ module _ (form : Form) (s : List ℕ) (room : ℕ) (m : Measured) (q : m ≡ mea
       read-fault form s room a b c e ∙ (λ j. refuse (x j) (y j) (w j)))
 
   module _ (count : ℕ) (h : m ≡ Whole count) where
-    pub whole-is : (bodyAt form s 0 .ending ≡ whole) × (count ≡ length (writtenOf form (bodyAt form s 0 .items)))
+    pub whole-is : (bodyAt form s 0 .ending ≡ whole) × (count ≡ length (itemsBytes form (bodyAt form s 0 .items)))
     unfolding measuredOf
     whole-is =
         by-ending (bodyAt form s 0 .ending)
         (λ e.
         let z = (rw (e, measuredOf) at q) in
-        let y : count ≡ 0 + length (writtenOf form (bodyAt form s 0 .items)) = cc in
+        let y : count ≡ 0 + length (itemsBytes form (bodyAt form s 0 .items)) = cc in
         (e, omega arith))
         (λ a b c e. never (let z = (rw (e, measuredOf) at q) in cc))
 
-    judged : readOf form s room
-        ≡ pick (wrongCount form (length (bodyAt form s 0 .items))) (refuse 27 0 (length s)) (pick (ltb room count) (refuse 26 0 (length s)) (wrote (writtenOf form (bodyAt form s 0 .items))))
+    judged : unescapedOf form s room
+        ≡ pick (wrongCount form (length (bodyAt form s 0 .items))) (refuse 27 0 (length s)) (pick (ltb room count) (refuse 26 0 (length s)) (wrote (itemsBytes form (bodyAt form s 0 .items))))
     judged =
         read-whole form s room (whole-is .0)
-        ∙ ap (λ (c : ℕ). pick (wrongCount form (length (bodyAt form s 0 .items))) (refuse 27 0 (length s)) (pick (ltb room c) (refuse 26 0 (length s)) (wrote (writtenOf form (bodyAt form s 0 .items))))) (sym (whole-is .1))
+        ∙ ap (λ (c : ℕ). pick (wrongCount form (length (bodyAt form s 0 .items))) (refuse 27 0 (length s)) (pick (ltb room c) (refuse 26 0 (length s)) (wrote (itemsBytes form (bodyAt form s 0 .items))))) (sym (whole-is .1))
 
-    pub read-wrong : wrongCount form (length (bodyAt form s 0 .items)) ≡ true → readOf form s room ≡ refuse 27 0 (length s)
+    pub read-wrong : wrongCount form (length (bodyAt form s 0 .items)) ≡ true → unescapedOf form s room ≡ refuse 27 0 (length s)
     read-wrong w = judged ∙ rw w
 
     module _ (w : wrongCount form (length (bodyAt form s 0 .items)) ≡ false) where
-      pub read-short : room < count → readOf form s room ≡ refuse 26 0 (length s)
+      pub read-short : room < count → unescapedOf form s room ≡ refuse 26 0 (length s)
       read-short l = judged ∙ rw (w, lt-ltb room count l)
 
-      pub read-wrote : count ≤ room → readOf form s room ≡ wrote (writtenOf form (bodyAt form s 0 .items))
+      pub read-wrote : count ≤ room → unescapedOf form s room ≡ wrote (itemsBytes form (bodyAt form s 0 .items))
       read-wrote l = judged ∙ rw (w, le-ltb room count l)
 
 module _ (form : Form) (s : List ℕ) (room : ℕ) (t : Tested) (q : t ≡ sourceTest s) where
-  pub source-sound : t ≡ Sound → unescapeOf form s room ≡ readOf form s room
+  pub source-sound : t ≡ Sound → unescapeOf form s room ≡ unescapedOf form s room
   unfolding unescapeOf
   source-sound h = rw (sym q ∙ h, unescapeOf)
 
-  pub source-long : t ≡ TooLong → unescapeOf form s room ≡ refuse 1 0 0
+  pub source-refused : (r : Refusal) → t ≡ Unsound r → unescapeOf form s room ≡ refuseWith r
   unfolding unescapeOf
-  source-long h = rw (sym q ∙ h, unescapeOf)
-
-  pub source-ill : (at : ℕ) → t ≡ IllFormed at → unescapeOf form s room ≡ refuse 2 at at
-  unfolding unescapeOf
-  source-ill at h = rw (sym q ∙ h, unescapeOf)
-
-  pub source-misplaced : (at : ℕ) → t ≡ Misplaced at → unescapeOf form s room ≡ refuse 4 at at
-  unfolding unescapeOf
-  source-misplaced at h = rw (sym q ∙ h, unescapeOf)
+  source-refused r h = rw (sym q ∙ h, unescapeOf)
 
 -- a refusal writes nothing
 pub refused-store : (r : Result) (number start end : ℕ) (out : List ℕ) → r ≡ refuse number start end → out ≡ sets out 0 (r .bytes)

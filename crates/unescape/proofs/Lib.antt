@@ -4,4 +4,5 @@ pub mod Bodies
 pub mod Stretches
 pub mod Passes
 pub mod Unescaped
+pub mod Faults
 pub mod Examples

@@ -6,8 +6,8 @@ use mathlib.Core.Bool.{Bool, true, false, not}
 use native.Mathlib.Omega.{arith}
 use lib.ListN.{getD, length}
 use borrow.Author.Tests.{le-leb, lt-leb}
-use Rattle.digits.proofs.Hex.{hex-digit, hex-high, hex-low}
-use Rattle.digits.specs.Digits.{hexValue, isHexDigit}
+use Rattle.classes.proofs.Hex.{hex-digit, hex-high, hex-low}
+use Rattle.classes.specs.Digits.{hexValue, isHexDigit}
 use Rattle.escapes.proofs.Escapes.{byte-turn, char-turn, close-yes, digits-close, digits-more, hex-small, hex-yes, second-yes, unicode-open}
 use Rattle.escapes.specs.Escapes.{byteTurn, charTurn, digitsOf, hexOf, lowOnly, shiftIn, unicodeOf}
 use Rattle.escapes.specs.declared.Escape.{Escape}

@@ -16,13 +16,14 @@ use Rattle.laws.proofs.Cases.{never}
 use Rattle.laws.proofs.Sets.{sets-append}
 use Rattle.laws.specs.Bools.{same}
 use Rattle.runs.proofs.Runs.{bare-next}
-use Rattle.runs.specs.Runs.{bareOf, runOf}
-use Rattle.sound.specs.Source.{soundTo}
+use Rattle.runs.specs.Runs.{bareOf, plainEnd}
+use Rattle.source_test.specs.Source.{soundTo}
 use Rattle.text.proofs.Decode.{Step, rest-end}
 use Rattle.text.specs.Utf8.{after, rest}
 use Rattle.unescape.proofs.Bodies.{body-bad, body-end, body-item, body-skipped, bodyAt, by-ending, next-past, next-room}
 use Rattle.unescape.proofs.Stretches.{Stretch, stretch-bare, stretch-run}
-use Rattle.unescape.specs.Bodies.{Body, Writable, fault, measuredOf, noMore, whole, writtenOf}
+use Rattle.unescape.specs.Bodies.{Body, fault, itemsBytes, noMore, whole}
+use Rattle.unescape.specs.Measures.{Writable, measuredOf}
 use Rattle.unescape.specs.declared.body.Measured.the-variants.{Stopped, Whole}
 
 -- what is measured from here on gives what is measured from the start
@@ -36,11 +37,11 @@ pub measuring-first : (form : Form) (s : List ℕ) → soundTo s ≡ length s �
 unfolding soundTo
 measuring-first form s h = record { same = refl; sound = h; inside = omega arith; less = omega arith }
 
-measured-on : (form : Form) (c k : ℕ) (l : List ℕ) (a b : Body) → writtenOf form (a .items) ≡ l ++ writtenOf form (b .items) → a .ending ≡ b .ending → k ≡ length l → measuredOf form (c + k) b ≡ measuredOf form c a
+measured-on : (form : Form) (c k : ℕ) (l : List ℕ) (a b : Body) → itemsBytes form (a .items) ≡ l ++ itemsBytes form (b .items) → a .ending ≡ b .ending → k ≡ length l → measuredOf form (c + k) b ≡ measuredOf form c a
 unfolding measuredOf
 measured-on form c k l a b w e h =
     by-ending (b .ending)
-    (λ z. rw (e ∙ z, z, measuredOf) (ap Whole (omega (arith, ap length w, length-append l (writtenOf form (b .items))))))
+    (λ z. rw (e ∙ z, z, measuredOf) (ap Whole (omega (arith, ap length w, length-append l (itemsBytes form (b .items))))))
     (λ number start end z. rw (e ∙ z, z, measuredOf))
 
 module _ (form : Form) (s : List ℕ) (at count : ℕ) (i : Measuring form s at count) where
@@ -57,11 +58,11 @@ module _ (form : Form) (s : List ℕ) (at count : ℕ) (i : Measuring form s at 
   pub measuring-same : (r : ℕ) → Stretch form s at r [] → Measuring form s r count
   measuring-same r g = subst (Measuring form s r) (omega arith) (measuring-next r [] 0 g refl)
 
-  pub measuring-run : {b : Bool} {r : ℕ} → b ≡ isBytes form → r ≡ at + length (runOf b (drop at s)) → Measuring form s r (count + (r - at))
-  measuring-run {b} {r} q e = measuring-next r (runOf b (drop at s)) (r - at) (stretch-run form s at (i .sound) b q r e) (omega arith)
+  pub measuring-run : {b : Bool} {r : ℕ} → b ≡ isBytes form → r ≡ at + length (plainEnd b (drop at s)) → Measuring form s r (count + (r - at))
+  measuring-run {b} {r} q e = measuring-next r (plainEnd b (drop at s)) (r - at) (stretch-run form s at (i .sound) b q r e) (omega arith)
 
   pub measured-end : length s ≤ at → Whole count ≡ measuredOf form 0 (bodyAt form s 0)
-  unfolding measuredOf writtenOf
+  unfolding measuredOf itemsBytes
   measured-end h = sym (ap (measuredOf form count) (body-end form s at (rest-end s at h)) ∙ ap Whole (omega arith)) ∙ i .same
 
   pub measured-bad : (number m : ℕ) → bodyAt form s at ≡ noMore (fault number at m) → Stopped number at m ≡ measuredOf form 0 (bodyAt form s 0)
@@ -70,8 +71,8 @@ module _ (form : Form) (s : List ℕ) (at count : ℕ) (i : Measuring form s at 
 
 -- what is written from here on gives what is written from the start, and there is room for it
 pub record Writing (form : Form) (s out₀ out : List ℕ) (at n : ℕ) : Type 0 where
-  pub same : sets out n (writtenOf form (bodyAt form s at .items)) ≡ sets out₀ 0 (writtenOf form (bodyAt form s 0 .items))
-  pub room : n + length (writtenOf form (bodyAt form s at .items)) ≤ length out
+  pub same : sets out n (itemsBytes form (bodyAt form s at .items)) ≡ sets out₀ 0 (itemsBytes form (bodyAt form s 0 .items))
+  pub room : n + length (itemsBytes form (bodyAt form s at .items)) ≤ length out
   pub size : length out ≡ length out₀
   pub sound : after (rest s at) at ≡ length s
   pub faultless : bodyAt form s at .ending ≡ whole
@@ -82,24 +83,24 @@ unfolding soundTo
 writing-first form s out w = record { same = refl; room = omega (arith, w .enough); size = refl; sound = w .sound; faultless = w .faultless; inside = omega arith }
 
 module _ (form : Form) (s out₀ out : List ℕ) (at n : ℕ) (i : Writing form s out₀ out at n) where
-  pub written-end : length s ≤ at → out ≡ sets out₀ 0 (writtenOf form (bodyAt form s 0 .items))
-  unfolding writtenOf
-  written-end h = sym (ap (λ (b : Body). sets out n (writtenOf form (b .items))) (body-end form s at (rest-end s at h))) ∙ i .same
+  pub written-end : length s ≤ at → out ≡ sets out₀ 0 (itemsBytes form (bodyAt form s 0 .items))
+  unfolding itemsBytes
+  written-end h = sym (ap (λ (b : Body). sets out n (itemsBytes form (b .items))) (body-end form s at (rest-end s at h))) ∙ i .same
 
   -- a body that is written has no fault
   pub written-bad {ℓ} : {X : Type ℓ} (number m : ℕ) → bodyAt form s at ≡ noMore (fault number at m) → X
   written-bad number m h = never (let z = ap (λ (b : Body). b .ending) h in let y = i .faultless in cc)
 
   module _ (r : ℕ) (l : List ℕ) (g : Stretch form s at r l) where
-    more : length (writtenOf form (bodyAt form s at .items)) ≡ length l + length (writtenOf form (bodyAt form s r .items))
-    more = ap length (g .bytes) ∙ length-append l (writtenOf form (bodyAt form s r .items))
+    more : length (itemsBytes form (bodyAt form s at .items)) ≡ length l + length (itemsBytes form (bodyAt form s r .items))
+    more = ap length (g .bytes) ∙ length-append l (itemsBytes form (bodyAt form s r .items))
 
     pub room-next : n + length l ≤ length out
     room-next = omega (arith, i .room, more)
 
     pub writing-next : (out′ : List ℕ) (k : ℕ) → out′ ≡ sets out n l → k ≡ length l → Writing form s out₀ out′ r (n + k)
     writing-next out′ k z h =
-        let w = writtenOf form (bodyAt form s r .items) in
+        let w = itemsBytes form (bodyAt form s r .items) in
         let size′ : length out′ ≡ length out = ap length z ∙ length-sets out n l in
         record {
           same = ap₂ (λ (o : List ℕ) (j : ℕ). sets o j w) z (ap (λ (j : ℕ). n + j) h) ∙ sets-append out l w n (n + length l) refl ∙ ap (sets out n) (sym (g .bytes)) ∙ i .same;

@@ -19,15 +19,15 @@ use Rattle.laws.proofs.Cases.{never, split, split-eq, split-le}
 use Rattle.runs.proofs.Begins.{begins-item}
 use Rattle.runs.proofs.Runs.{bare-backslash, bare-cons, bare-end, bare-more, bare-scalar, high-here, low-few, low-here}
 use Rattle.runs.proofs.Shorts.{short-here}
-use Rattle.runs.specs.Runs.{asciiOf, bareOf, beginsOf, escapedAt, itemIn, limitOf, runOf, shortOf}
+use Rattle.runs.specs.Runs.{asciiOf, bareOf, beginsOf, escapedAt, itemIn, limitOf, plainEnd, shortOf}
 use Rattle.text.proofs.Decode.{Step, after-end, by-step, step-ascii}
 use Rattle.text.specs.Utf8.{after, rest}
 use Rattle.unescape.proofs.Bodies.{body-bad, body-item, body-skipped, bodyAt, fits-here, next-past, next-room, next-sound}
-use Rattle.unescape.specs.Bodies.{Body, fault, noMore, whole, writtenOf}
+use Rattle.unescape.specs.Bodies.{Body, fault, itemsBytes, noMore, whole}
 
 -- from p to r the body gives the bytes l, and goes on at r
 pub record Stretch (form : Form) (s : List ℕ) (p r : ℕ) (l : List ℕ) : Type 0 where
-  pub bytes : writtenOf form (bodyAt form s p .items) ≡ l ++ writtenOf form (bodyAt form s r .items)
+  pub bytes : itemsBytes form (bodyAt form s p .items) ≡ l ++ itemsBytes form (bodyAt form s r .items)
   pub ending : bodyAt form s p .ending ≡ bodyAt form s r .ending
   pub sound : after (rest s r) r ≡ after (rest s p) p
   pub few : p + length l ≤ r
@@ -36,12 +36,12 @@ pub record Stretch (form : Form) (s : List ℕ) (p r : ℕ) (l : List ℕ) : Typ
 -- what the scalar v at p begins, as the code found it: e
 module _ (form : Form) (s : List ℕ) (p v n : ℕ) (t : Step s p v n) (e : Escape) (q : e ≡ itemOf form v (rest s n) n) where
   stretch-item : (x m : ℕ) → e ≡ Item x m → Stretch form s p m (itemBytes form x)
-  unfolding writtenOf
+  unfolding itemsBytes
   stretch-item x m h =
       let b = body-item form s p v n t e q x m h in
       let d = ap placeOf h in
       record {
-        bytes = ap (λ (y : Body). writtenOf form (y .items)) b;
+        bytes = ap (λ (y : Body). itemsBytes form (y .items)) b;
         ending = ap (λ (y : Body). y .ending) b;
         sound = subst (λ (k : ℕ). after (rest s k) k ≡ after (rest s p) p) d (next-sound form s p v n t e q);
         few = fits-here form s p v n t e q x m h .room;
@@ -53,7 +53,7 @@ module _ (form : Form) (s : List ℕ) (p v n : ℕ) (t : Step s p v n) (e : Esca
       let b = body-skipped form s p v n t e q m h in
       let d = ap placeOf h in
       record {
-        bytes = ap (λ (y : Body). writtenOf form (y .items)) b;
+        bytes = ap (λ (y : Body). itemsBytes form (y .items)) b;
         ending = ap (λ (y : Body). y .ending) b;
         sound = subst (λ (k : ℕ). after (rest s k) k ≡ after (rest s p) p) d (next-sound form s p v n t e q);
         few = omega (arith, next-past form s p v n t e q);
@@ -101,7 +101,7 @@ module _ (form : Form) (s : List ℕ) where
   stretch-then : (p q r : ℕ) (l m : List ℕ) → Stretch form s p q l → Stretch form s q r m → Stretch form s p r (l ++ m)
   stretch-then p q r l m a b =
       record {
-        bytes = a .bytes ∙ ap (λ (x : List ℕ). l ++ x) (b .bytes) ∙ sym (append-assoc l m (writtenOf form (bodyAt form s r .items)));
+        bytes = a .bytes ∙ ap (λ (x : List ℕ). l ++ x) (b .bytes) ∙ sym (append-assoc l m (itemsBytes form (bodyAt form s r .items)));
         ending = a .ending ∙ b .ending;
         sound = b .sound ∙ a .sound;
         few = omega (arith, a .few, b .few, length-append l m);
@@ -162,6 +162,6 @@ module _ (form : Form) (s : List ℕ) where
       run-more p (getD s p 0) (p + 1) (asciiOf (bareOf (drop p s))) (asciiOf (bareOf (drop (p + 1) s))) t e (stretch-plain p (getD s p 0) (p + 1) t (b .1) (λ k. l)) (low-by f (p + 1) few))
       (λ l. no-run p (asciiOf (bareOf (drop p s))) (high-here s p z l)))
 
-  pub stretch-run : (p : ℕ) → after (rest s p) p ≡ length s → (b : Bool) → b ≡ isBytes form → (r : ℕ) → r ≡ p + length (runOf b (drop p s)) → Stretch form s p r (runOf b (drop p s))
+  pub stretch-run : (p : ℕ) → after (rest s p) p ≡ length s → (b : Bool) → b ≡ isBytes form → (r : ℕ) → r ≡ p + length (plainEnd b (drop p s)) → Stretch form s p r (plainEnd b (drop p s))
   stretch-run p d true q r e = subst (λ (k : ℕ). Stretch form s p k (asciiOf (bareOf (drop p s)))) (sym e) (low-by (length (bareOf (drop p s))) p (omega arith))
   stretch-run p d false q r e = stretch-bare p d (λ h. never (cc)) r e

@@ -2,7 +2,7 @@
 use Prim.Native.Nat.{ℕ, _+_, _/_, _%_, _<_}
 use mathlib.Core.Path.{_≡_}
 use mathlib.Core.Bool.{Bool, true}
-use Rattle.digits.specs.Digits.{hexValue, isHexDigit}
+use Rattle.classes.specs.Digits.{hexValue, isHexDigit}
 use Rattle.encoding.specs.Encode.{isScalar}
 use Rattle.escapes.specs.declared.Escape.{Escape}
 use Rattle.escapes.specs.declared.Escape.the-variants.{Item}

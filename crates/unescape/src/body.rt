@@ -12,15 +12,12 @@ use runs::escaped_at;
 use runs::run_end;
 use runs::short_escape;
 use runs::short_limit;
-use sound::Tested;
+use source_test::Tested;
 use text::Scalar;
 use token::Refusal;
 use token::Span;
-use token::refusal::ILL_FORMED;
-use token::refusal::NO_PLACE;
 use token::refusal::NOT_ONE_ITEM;
 use token::refusal::OUTPUT_SHORT;
-use token::refusal::TOO_LONG;
 ghost use Prim.Native.Nat.{_+_, _≤_};
 ghost use mathlib.Core.Path.{_≡_};
 ghost use mathlib.Core.Bool.{true};
@@ -29,9 +26,10 @@ ghost use lib.ListN.{drop, length, take};
 ghost use Rattle.encoding.specs.Encode.{padded};
 ghost use Rattle.items.specs.Items.{isBytes, itemBytes};
 ghost use Rattle.runs.specs.Runs.{bareOf};
-ghost use Rattle.sound.specs.Source.{soundTo};
+ghost use Rattle.source_test.specs.Source.{soundTo};
 ghost use Rattle.text.specs.Utf8.{rest};
-ghost use Rattle.unescape.specs.Bodies.{Writable, bodyOf, measuredOf, readOf, refusedAt, unescapeOf, writtenOf, wrongCount};
+ghost use Rattle.unescape.specs.Bodies.{bodyOf, itemsBytes, refusedAt, unescapeOf, unescapedOf, wrongCount};
+ghost use Rattle.unescape.specs.Measures.{Writable, measuredOf};
 ghost use Rattle.unescape.specs.declared.body.Measured.{Measured};
 ghost use Rattle.unescape.specs.declared.body.Measured.the-variants.{Stopped};
 
@@ -176,7 +174,7 @@ fn copy_run(s: &[u8], at: usize, out: &mut [u8], n: usize) -> usize
 // The items of a body without a fault, written from the first byte on: so what stands before a backslash is copied in every form.
 fn write_items(s: &[u8], form: Form, out: &mut [u8])
     requires { ⌜ Writable form (now s) (length (now out)) ⌝ }
-    ensures { λ _. ⌜ now (out .exit) ≡ sets (now (out .entry)) 0 (writtenOf form (bodyOf form 0 (rest (now (s .entry)) 0) 0 .items)) ⌝ }
+    ensures { λ _. ⌜ now (out .exit) ≡ sets (now (out .entry)) 0 (itemsBytes form (bodyOf form 0 (rest (now (s .entry)) 0) 0 .items)) ⌝ }
 {
     let limit = short_limit(is_template(form));
     let mut at: usize = 0;
@@ -264,8 +262,8 @@ fn wrong_count(s: &[u8], form: Form) -> bool
 // A body that is well-formed.
 fn unescape_sound(body: &[u8], form: Form, out: &mut [u8]) -> Unescaped
     requires { ⌜ soundTo (now body) ≡ length (now body) ⌝ }
-    ensures answer { λ r. ⌜ r ≡ readOf form (now (body .entry)) (length (now (out .entry))) .answer ⌝ }
-    ensures bytes { λ _. ⌜ now (out .exit) ≡ sets (now (out .entry)) 0 (readOf form (now (body .entry)) (length (now (out .entry))) .bytes) ⌝ }
+    ensures answer { λ r. ⌜ r ≡ unescapedOf form (now (body .entry)) (length (now (out .entry))) .answer ⌝ }
+    ensures bytes { λ _. ⌜ now (out .exit) ≡ sets (now (out .entry)) 0 (unescapedOf form (now (body .entry)) (length (now (out .entry))) .bytes) ⌝ }
 {
     match measure(body, form) {
         Measured::Stopped { number, start, end } => refuse(number, start, end),
@@ -286,10 +284,8 @@ pub fn unescape(body: &[u8], form: Form, out: &mut [u8]) -> Unescaped
     ensures answer { λ r. ⌜ r ≡ unescapeOf form (now (body .entry)) (length (now (out .entry))) .answer ⌝ }
     ensures bytes { λ _. ⌜ now (out .exit) ≡ sets (now (out .entry)) 0 (unescapeOf form (now (body .entry)) (length (now (out .entry))) .bytes) ⌝ }
 {
-    match sound::test_source(body) {
+    match source_test::test_source(body) {
         Tested::Sound => unescape_sound(body, form, out),
-        Tested::TooLong => refuse(TOO_LONG, 0, 0),
-        Tested::IllFormed { at } => refuse(ILL_FORMED, at, at),
-        Tested::Misplaced { at } => refuse(NO_PLACE, at, at),
+        Tested::Unsound { refusal } => Unescaped::Refused { refusal },
     }
 }

@@ -27,8 +27,8 @@ fn is_member(class: Class, v: u32) -> bool {
     match class {
         Class::White => classes::is_whitespace(v),
         Class::Control => classes::is_control(v),
-        Class::Digit => digits::is_ascii_digit(v),
-        Class::Hex => digits::is_ascii_hexdigit(v),
+        Class::Digit => classes::is_ascii_digit(v),
+        Class::Hex => classes::is_ascii_hexdigit(v),
         Class::Start => classes::is_xid_start(v),
         Class::Continue => classes::is_xid_continue(v),
     }

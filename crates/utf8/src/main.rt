@@ -1,6 +1,6 @@
 // Runs the test of a source over short byte sequences and prints a line for each first byte: `BYTE GOOD SUM`.
 // What it must print is what Rust's core::str::from_utf8 gave for the same sequences in the same order; rust/utf8-verdicts wrote that down.
-use sound::Tested;
+use source_test::Tested;
 
 // What the later bytes of a sequence of four run over: the ends of the ranges of RFC 3629, section 4, and their neighbours.
 const SECOND: [u8; 10] = [0x00, 0x7f, 0x80, 0x8f, 0x90, 0x9f, 0xa0, 0xbf, 0xc0, 0xff];
@@ -28,19 +28,17 @@ fn test(tally: Tally, s: &[u8]) -> Tally {
     let tested = std::num::wrapping_add_u32(tally.tested, 1);
     let good = tally.good;
     let sum = tally.sum;
-    match sound::test_source(s) {
+    match source_test::test_source(s) {
         Tested::Sound => Tally {
             tested,
             good: std::num::wrapping_add_u32(good, 1),
             sum,
         },
-        Tested::IllFormed { at } => Tally {
+        Tested::Unsound { refusal } => Tally {
             tested,
             good,
-            sum: add_weighted(sum, tested, at),
+            sum: add_weighted(sum, tested, refusal.span.start),
         },
-        Tested::TooLong => tally,
-        Tested::Misplaced { at: _ } => tally,
     }
 }
 

@@ -1,182 +1,134 @@
 // What the refusals of a source and the findings are called, mean and ask for; 160 and 161 are the findings 60 and 61 of a template.
 // Written by tools/texts.py from texts.txt: change that table. Every function is safe and ends; what it puts no contract says.
-use buffer::put_bytes;
+use buffer::page::Page;
+use buffer::page::put_label;
 
-fn source_name(out: &mut [u8], waiting: usize, number: u32) -> usize {
+// The row of a number in the texts below.
+fn row_of(number: u32) -> usize {
     match number {
-        1 => put_bytes(out, waiting, b"too-long"),
-        2 => put_bytes(out, waiting, b"ill-formed"),
-        3 => put_bytes(out, waiting, b"no-room"),
-        4 => put_bytes(out, waiting, b"no-place"),
-        5 => put_bytes(out, waiting, b"no-such-form"),
-        6 => put_bytes(out, waiting, b"no-such-reading"),
-        _ => put_bytes(out, waiting, b"unknown"),
+        1 => 0,
+        2 => 1,
+        3 => 2,
+        4 => 3,
+        5 => 4,
+        6 => 5,
+        10 => 6,
+        11 => 7,
+        12 => 8,
+        13 => 9,
+        14 => 10,
+        15 => 11,
+        16 => 12,
+        17 => 13,
+        18 => 14,
+        19 => 15,
+        60 => 16,
+        61 => 17,
+        160 => 18,
+        161 => 19,
+        62 => 20,
+        63 => 21,
+        64 => 22,
+        65 => 23,
+        _ => 24,
     }
 }
 
-fn token_name(out: &mut [u8], waiting: usize, number: u32) -> usize {
-    match number {
-        10 => put_bytes(out, waiting, b"expected-escape"),
-        11 => put_bytes(out, waiting, b"unterminated-char-lit"),
-        12 => put_bytes(out, waiting, b"expected-char-close"),
-        13 => put_bytes(out, waiting, b"expected-char-or-label"),
-        14 => put_bytes(out, waiting, b"expected-byte-close"),
-        15 => put_bytes(out, waiting, b"unterminated-byte-lit"),
-        16 => put_bytes(out, waiting, b"unterminated-str-lit"),
-        17 => put_bytes(out, waiting, b"unterminated-byte-str-lit"),
-        18 => put_bytes(out, waiting, b"unexpected-char"),
-        19 => put_bytes(out, waiting, b"too-deep"),
-        _ => put_bytes(out, waiting, b"unknown"),
-    }
+pub fn put_name(out: Page, number: u32) -> Page {
+    put_label(
+        out,
+        b"too-long\n\
+        ill-formed\n\
+        no-room\n\
+        no-place\n\
+        no-such-form\n\
+        no-such-reading\n\
+        expected-escape\n\
+        unterminated-char-lit\n\
+        expected-char-close\n\
+        expected-char-or-label\n\
+        expected-byte-close\n\
+        unterminated-byte-lit\n\
+        unterminated-str-lit\n\
+        unterminated-byte-str-lit\n\
+        unexpected-char\n\
+        too-deep\n\
+        comment-runs-on\n\
+        comment-runs-on\n\
+        template-runs-on\n\
+        template-runs-on\n\
+        read-as-code\n\
+        comment-unclosed\n\
+        template-unclosed\n\
+        byte-order-mark\n\
+        unknown",
+        b'\n',
+        row_of(number),
+    )
 }
 
-fn finding_name(out: &mut [u8], waiting: usize, number: u32) -> usize {
-    match number {
-        60 | 61 => put_bytes(out, waiting, b"comment-runs-on"),
-        160 | 161 => put_bytes(out, waiting, b"template-runs-on"),
-        62 => put_bytes(out, waiting, b"read-as-code"),
-        63 => put_bytes(out, waiting, b"comment-unclosed"),
-        64 => put_bytes(out, waiting, b"template-unclosed"),
-        65 => put_bytes(out, waiting, b"byte-order-mark"),
-        _ => put_bytes(out, waiting, b"unknown"),
-    }
+pub fn put_what(out: Page, number: u32) -> Page {
+    put_label(
+        out,
+        b"the source is over 65,536 bytes\n\
+        the source is not UTF-8 from here on\n\
+        the lent memory is full\n\
+        the place is past the end or inside a character\n\
+        the number names no form of a body\n\
+        the number names no reading\n\
+        the source ends after a backslash\n\
+        a control character stands in a char\n\
+        a char is empty\n\
+        the source ends after a single quote\n\
+        the source ends in a byte\n\
+        a control character stands in a byte\n\
+        the source ends in a string\n\
+        the source ends in a byte string\n\
+        no token begins with this character\n\
+        a 65th template is opened within templates\n\
+        this comment does not end where it seems to\n\
+        this comment does not end where it seems to\n\
+        this template does not end where it seems to\n\
+        this template does not end where it seems to\n\
+        this is in force, though it looks like a comment\n\
+        nothing closes this comment\n\
+        nothing closes this template\n\
+        the file begins with a byte order mark, and rune refuses it\n\
+        unknown",
+        b'\n',
+        row_of(number),
+    )
 }
 
-pub fn put_name(out: &mut [u8], waiting: usize, number: u32) -> usize {
-    match number {
-        0..=9 => source_name(out, waiting, number),
-        10..=19 => token_name(out, waiting, number),
-        _ => finding_name(out, waiting, number),
-    }
-}
-
-fn source_what(out: &mut [u8], waiting: usize, number: u32) -> usize {
-    match number {
-        1 => put_bytes(out, waiting, b"the source is over 65,536 bytes"),
-        2 => put_bytes(out, waiting, b"the source is not UTF-8 from here on"),
-        3 => put_bytes(out, waiting, b"the lent memory is full"),
-        4 => put_bytes(
-            out,
-            waiting,
-            b"the place is past the end or inside a character",
-        ),
-        5 => put_bytes(out, waiting, b"the number names no form of a body"),
-        6 => put_bytes(out, waiting, b"the number names no reading"),
-        _ => put_bytes(out, waiting, b"unknown"),
-    }
-}
-
-fn token_what(out: &mut [u8], waiting: usize, number: u32) -> usize {
-    match number {
-        10 => put_bytes(out, waiting, b"the source ends after a backslash"),
-        11 => put_bytes(out, waiting, b"a control character stands in a char"),
-        12 => put_bytes(out, waiting, b"a char is empty"),
-        13 => put_bytes(out, waiting, b"the source ends after a single quote"),
-        14 => put_bytes(out, waiting, b"the source ends in a byte"),
-        15 => put_bytes(out, waiting, b"a control character stands in a byte"),
-        16 => put_bytes(out, waiting, b"the source ends in a string"),
-        17 => put_bytes(out, waiting, b"the source ends in a byte string"),
-        18 => put_bytes(out, waiting, b"no token begins with this character"),
-        19 => put_bytes(out, waiting, b"a 65th template is opened within templates"),
-        _ => put_bytes(out, waiting, b"unknown"),
-    }
-}
-
-fn finding_what(out: &mut [u8], waiting: usize, number: u32) -> usize {
-    match number {
-        60 | 61 => put_bytes(out, waiting, b"this comment does not end where it seems to"),
-        160 | 161 => put_bytes(
-            out,
-            waiting,
-            b"this template does not end where it seems to",
-        ),
-        62 => put_bytes(
-            out,
-            waiting,
-            b"this is in force, though it looks like a comment",
-        ),
-        63 => put_bytes(out, waiting, b"nothing closes this comment"),
-        64 => put_bytes(out, waiting, b"nothing closes this template"),
-        65 => put_bytes(
-            out,
-            waiting,
-            b"the file begins with a byte order mark, and rune refuses it",
-        ),
-        _ => put_bytes(out, waiting, b"unknown"),
-    }
-}
-
-pub fn put_what(out: &mut [u8], waiting: usize, number: u32) -> usize {
-    match number {
-        0..=9 => source_what(out, waiting, number),
-        10..=19 => token_what(out, waiting, number),
-        _ => finding_what(out, waiting, number),
-    }
-}
-
-fn source_cure(out: &mut [u8], waiting: usize, number: u32) -> usize {
-    match number {
-        1 => put_bytes(out, waiting, b"split it"),
-        2 => put_bytes(out, waiting, b"save it as UTF-8"),
-        3 => put_bytes(out, waiting, b"lend more"),
-        4 => put_bytes(out, waiting, b"begin where a token ended"),
-        5 => put_bytes(out, waiting, b"give 1 to 5"),
-        6 => put_bytes(out, waiting, b"give 1 or 2"),
-        _ => put_bytes(out, waiting, b"unknown"),
-    }
-}
-
-fn token_cure(out: &mut [u8], waiting: usize, number: u32) -> usize {
-    match number {
-        10 => put_bytes(out, waiting, b"finish the escape and close the literal"),
-        11 => put_bytes(
-            out,
-            waiting,
-            b"close the char before it, or write an escape",
-        ),
-        12 => put_bytes(out, waiting, b"put a character between its quotes"),
-        13 => put_bytes(out, waiting, b"write a char or a label"),
-        14 => put_bytes(out, waiting, b"close it with a single quote"),
-        15 => put_bytes(
-            out,
-            waiting,
-            b"close the byte before it, or write an escape",
-        ),
-        16 | 17 => put_bytes(out, waiting, b"close it with a quote"),
-        18 => put_bytes(
-            out,
-            waiting,
-            b"take it out, or put it in a string or a comment",
-        ),
-        19 => put_bytes(out, waiting, b"take one out into a variable"),
-        _ => put_bytes(out, waiting, b"unknown"),
-    }
-}
-
-fn finding_cure(out: &mut [u8], waiting: usize, number: u32) -> usize {
-    match number {
-        60 | 61 => put_bytes(out, waiting, b"write `/*  */` with two blanks, or use `//`"),
-        160 | 161 => put_bytes(
-            out,
-            waiting,
-            b"take the comment after the backslash out of the template",
-        ),
-        62 => put_bytes(out, waiting, b"mend the comment before it that runs on"),
-        63 => put_bytes(out, waiting, b"close it with `*/`"),
-        64 => put_bytes(out, waiting, b"close it with a backtick"),
-        65 => put_bytes(
-            out,
-            waiting,
-            b"save the file as UTF-8 without a byte order mark",
-        ),
-        _ => put_bytes(out, waiting, b"unknown"),
-    }
-}
-
-pub fn put_cure(out: &mut [u8], waiting: usize, number: u32) -> usize {
-    match number {
-        0..=9 => source_cure(out, waiting, number),
-        10..=19 => token_cure(out, waiting, number),
-        _ => finding_cure(out, waiting, number),
-    }
+pub fn put_cure(out: Page, number: u32) -> Page {
+    put_label(
+        out,
+        b"split it\n\
+        save it as UTF-8\n\
+        lend more\n\
+        begin where a token ended\n\
+        give 1 to 5\n\
+        give 1 or 2\n\
+        finish the escape and close the literal\n\
+        close the char before it, or write an escape\n\
+        put a character between its quotes\n\
+        write a char or a label\n\
+        close it with a single quote\n\
+        close the byte before it, or write an escape\n\
+        close it with a quote\n\
+        close it with a quote\n\
+        take it out, or put it in a string or a comment\n\
+        take one out into a variable\n\
+        write `/*  */` with two blanks, or use `//`\n\
+        write `/*  */` with two blanks, or use `//`\n\
+        take the comment after the backslash out of the template\n\
+        take the comment after the backslash out of the template\n\
+        mend the comment before it that runs on\n\
+        close it with `*/`\n\
+        close it with a backtick\n\
+        save the file as UTF-8 without a byte order mark\n\
+        unknown",
+        b'\n',
+        row_of(number),
+    )
 }

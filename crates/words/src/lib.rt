@@ -1,5 +1,7 @@
 // Words and numbers, from after their first scalar on.
 use text::Scalar;
+use text::character::DOT;
+use text::character::UNDERSCORE;
 use token::Kind;
 use token::Read;
 ghost use mathlib.Core.Path.{_≡_};
@@ -27,7 +29,7 @@ pub fn next_ident(s: &[u8], first: u32, start: usize, at: usize) -> Read
     ensures { λ r. ⌜ r ≡ wordOf width isXidContinue first start (rest (now (s .entry)) at) at ⌝ }
 {
     let end = word_end(s, at);
-    if first == 95 {
+    if first == UNDERSCORE {
         if end == at {
             return token::got(Kind::Underscore, start, end);
         }
@@ -51,7 +53,7 @@ fn digit_at(s: &[u8], at: usize) -> bool
     let Scalar::One { value, next: _ } = text::scalar_at(s, at) else {
         return false;
     };
-    digits::is_ascii_digit(value)
+    classes::is_ascii_digit(value)
 }
 
 pub fn next_number_literal(s: &[u8], start: usize, at: usize) -> Read
@@ -69,7 +71,7 @@ pub fn next_number_literal(s: &[u8], start: usize, at: usize) -> Read
             if !whole {
                 return token::got(Kind::Number, start, p);
             }
-            if value != 46 {
+            if value != DOT {
                 return token::got(Kind::Number, start, p);
             }
             if !digit_at(s, next) {

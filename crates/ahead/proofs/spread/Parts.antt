@@ -1,3 +1,4 @@
+-- Made from tools/spread.txt by tools/spread.py: change that, not this.
 -- The state where it stands: its cell taken apart into its fields' and put together again, and a field's array as what can be lent.
 -- An array's own row has its list as it is, a field's by `map (λ v. v)`: hence `array-is`, `array-si`. Written by tools/spread.py.
 use mathlib.Core.Path.{_≡_, refl, sym, ap, subst}

@@ -1,3 +1,4 @@
+-- Made from fills/buffer.py by tools/prove.py: change that, not this.
 -- The room left falls, and the count stays inside the buffer. Assumes nothing.
 use Prim.Native.Nat.{_-_, _≤_}
 use mathlib.Core.Path.{_≡_, sym}

@@ -1,3 +1,4 @@
+-- Made from fills/buffer.py by tools/prove.py: change that, not this.
 -- What waits is the front of the buffer. Assumes nothing.
 use mathlib.Core.Path.{sym}
 use native.Mathlib.Omega.{arith}

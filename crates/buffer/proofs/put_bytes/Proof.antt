@@ -1,3 +1,4 @@
+-- Made from fills/buffer.py by tools/prove.py: change that, not this.
 -- The bytes left fall, and the buffer keeps its length. Assumes nothing.
 use Prim.Native.Nat.{_-_}
 use mathlib.Core.Path.{_≡_}

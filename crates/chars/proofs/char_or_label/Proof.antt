@@ -1,3 +1,4 @@
+-- Made from fills/chars.py by tools/prove.py: change that, not this.
 use mathlib.Core.Path.{sym, ap₂, _∙_}
 use mathlib.Core.Bool.{Bool}
 use borrow.Author.Needs.{needs}

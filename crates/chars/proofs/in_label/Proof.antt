@@ -1,3 +1,4 @@
+-- Made from fills/chars.py by tools/prove.py: change that, not this.
 use native.Mathlib.Omega.{arith}
 use Rattle.laws.proofs.Cases.{either-true, within-high, within-low, within-yes}
 use Rattle.chars.proofs.in_label.Statement.{statement}

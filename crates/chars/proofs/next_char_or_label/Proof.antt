@@ -1,3 +1,4 @@
+-- Made from fills/chars.py by tools/prove.py: change that, not this.
 use Prim.Native.Nat.{_-_}
 use mathlib.Core.Path.{refl, sym, ap, ap₂, _∙_}
 use mathlib.Core.Bool.{Bool, true, false}

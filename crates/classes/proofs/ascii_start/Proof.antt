@@ -1,3 +1,4 @@
+-- Made from fills/classes.py by tools/prove.py: change that, not this.
 use borrow.Author.Tests.{le-leb, le-ltb, lt-leb, lt-ltb}
 use Rattle.classes.proofs.Ascii.{start-ascii}
 use Rattle.classes.proofs.ascii_start.Statement.{statement}

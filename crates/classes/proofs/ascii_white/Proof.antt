@@ -1,3 +1,4 @@
+-- Made from fills/classes.py by tools/prove.py: change that, not this.
 use borrow.Author.Tests.{eq-eqb, le-ltb, lt-ltb, ne-eqb}
 use Rattle.classes.proofs.Ascii.{white-ascii}
 use Rattle.classes.proofs.ascii_white.Statement.{statement}

@@ -1,3 +1,4 @@
+-- Made from fills/classes.py by tools/prove.py: change that, not this.
 -- Of a table in order, what is left is in order too, and it holds v where the whole table does. Assumes nothing.
 use Prim.Native.Nat.{_+_, _-_, _≤_}
 use mathlib.Core.Path.{_≡_, refl, sym, _∙_}

@@ -1,3 +1,4 @@
+-- Made from fills/classes.py by tools/prove.py: change that, not this.
 use native.Mathlib.Omega.{arith}
 use borrow.Author.Tests.{le-leb, lt-leb}
 use Rattle.laws.proofs.Cases.{both-false}

@@ -1,3 +1,4 @@
+-- Made from fills/classes.py by tools/prove.py: change that, not this.
 use borrow.Author.Needs.{needs}
 use Rattle.classes.proofs.Ascii.{start-ordered}
 use Rattle.classes.specs.Classes.{xidStart}

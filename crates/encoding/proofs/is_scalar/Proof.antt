@@ -1,3 +1,4 @@
+-- Made from fills/encoding.py by tools/prove.py: change that, not this.
 use mathlib.Core.Path.{sym}
 use borrow.Author.Tests.{le-leb, lt-leb}
 use Rattle.encoding.proofs.Rows.{scalar-low}

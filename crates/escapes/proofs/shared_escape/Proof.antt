@@ -1,3 +1,4 @@
+-- Made from fills/escapes.py by tools/prove.py: change that, not this.
 use Prim.Native.Nat.{ℕ}
 use mathlib.Core.Path.{sym, ap}
 use Rattle.escapes.proofs.Escapes.{shared-none}

@@ -1,3 +1,4 @@
+-- Made from fills/escapes.py by tools/prove.py: change that, not this.
 use native.Mathlib.Omega.{arith}
 use borrow.Author.Needs.{needs}
 use Rattle.escapes.proofs.Escapes.{hex-small}

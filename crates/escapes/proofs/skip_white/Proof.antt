@@ -1,3 +1,4 @@
+-- Made from fills/escapes.py by tools/prove.py: change that, not this.
 use Prim.Native.Nat.{_-_}
 use mathlib.Core.Path.{_≡_, refl, sym, _∙_}
 use native.Mathlib.Omega.{arith}
@@ -7,12 +8,12 @@ use borrow.Author.Tests.{not-false, not-true}
 use Rattle.text.proofs.Decode.{step-none, step-one}
 use Rattle.text.specs.Utf8.{rest}
 use Rattle.escapes.proofs.Escapes.{skip-end, skip-more, skip-stop}
-use Rattle.escapes.specs.Escapes.{skipOf}
+use Rattle.escapes.specs.Escapes.{skipWhite}
 use Rattle.escapes.proofs.skip_white.Statement.{statement}
 use Rattle.escapes.proofs.skip_white.Tie as tie
 
 abbrev Inv-loop : tie.InvT-loop
-Inv-loop s at p₀ p = skipOf (rest s p) p ≡ skipOf (rest s at) at
+Inv-loop s at p₀ p = skipWhite (rest s p) p ≡ skipWhite (rest s at) at
 
 abbrev μ-loop : tie.MeasureT-loop
 μ-loop s at p₀ p = length s - p

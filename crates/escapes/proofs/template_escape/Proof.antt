@@ -1,3 +1,4 @@
+-- Made from fills/escapes.py by tools/prove.py: change that, not this.
 use Rattle.escapes.proofs.template_escape.Statement.{statement}
 use Rattle.escapes.proofs.template_escape.Tie as tie
 

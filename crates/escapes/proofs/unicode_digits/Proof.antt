@@ -1,3 +1,4 @@
+-- Made from fills/escapes.py by tools/prove.py: change that, not this.
 use Prim.Native.Nat.{_-_}
 use mathlib.Core.Path.{_≡_, refl, sym, _∙_}
 use mathlib.Core.Bool.{false}

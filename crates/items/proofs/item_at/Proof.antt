@@ -1,3 +1,4 @@
+-- Made from fills/items.py by tools/prove.py: change that, not this.
 use mathlib.Core.Path.{sym, _∙_}
 use borrow.Author.Needs.{needs}
 use Rattle.items.proofs.Begins.{item-byte, item-char, item-high, item-low, item-plain}

@@ -1,3 +1,4 @@
+-- Made from fills/lexer.py by tools/prove.py: change that, not this.
 use mathlib.Core.Path.{sym, _∙_}
 use borrow.Author.Needs.{needs}
 use Rattle.lexer.proofs.Sources.{bang-cut, bang-end, bang-other, bang-second}

@@ -1,3 +1,4 @@
+-- Made from fills/lexer.py by tools/prove.py: change that, not this.
 use mathlib.Core.Path.{sym, ap, _∙_}
 use mathlib.Core.Bool.{Bool}
 use mathlib.Core.Logic.{⊎-elim}
@@ -24,11 +25,11 @@ got-requires c κs = search needs
 returns : tie.Need-returns
 returns c = c .got .ensures ∙ ap (gotOf Shebang 0) (c .before .consume-line .ensures) ∙ next-shebang (c .before .before .before .before .before .before .args .reading) (c .before .before .before .before .before .before .args .s .now) (c .before .before .before .before .before .before .args .at) (c .before .before .before .before .if1 .taken) (sym (c .before .before .before .is-shebang .ensures) ∙ c .before .before .if2 .taken)
 
-later-requires : tie.Need-later-requires
-later-requires c κs = search needs
+next-past-start-requires : tie.Need-next-past-start-requires
+next-past-start-requires c κs = search needs
 
 returns-2 : tie.Need-returns-2
-returns-2 c = c .later .ensures ∙ later-token (c .before .before .before .args .reading) (c .before .before .before .args .s .now) (c .before .before .before .args .at) (⊎-elim (λ w. no-shebang (c .before .before .before .args .s .now) (c .before .before .before .args .at) (w .0 .taken) (sym (w .1 .ensures) ∙ w .2 .left)) (λ w. ap (λ (b : Bool). both b (isShebang (rest (c .before .before .before .args .s .now) (c .before .before .before .args .at)))) (ne-eqb (c .before .before .before .args .at) 0 (w .left))) (c .before .if1 .came))
+returns-2 c = c .next-past-start .ensures ∙ later-token (c .before .before .before .args .reading) (c .before .before .before .args .s .now) (c .before .before .before .args .at) (⊎-elim (λ w. no-shebang (c .before .before .before .args .s .now) (c .before .before .before .args .at) (w .0 .taken) (sym (w .1 .ensures) ∙ w .2 .left)) (λ w. ap (λ (b : Bool). both b (isShebang (rest (c .before .before .before .args .s .now) (c .before .before .before .args .at)))) (ne-eqb (c .before .before .before .args .at) 0 (w .left))) (c .before .if1 .came))
 
 pub next-spec : {M : Type 1} → statement M
 next-spec =
@@ -38,5 +39,5 @@ next-spec =
     consume-line-requires
     got-requires
     returns
-    later-requires
+    next-past-start-requires
     returns-2)

@@ -1,3 +1,4 @@
+-- Made from fills/listing.py by tools/prove.py: change that, not this.
 use mathlib.Core.Path.{_∙_}
 use borrow.Author.Needs.{needs}
 use Rattle.lexer.proofs.Sources.{later-next}
@@ -10,11 +11,11 @@ next-requires c κs = search needs
 returns : tie.Need-returns
 returns c = c .next .ensures
 
-later-requires : tie.Need-later-requires
-later-requires c κs = search needs
+next-past-start-requires : tie.Need-next-past-start-requires
+next-past-start-requires c κs = search needs
 
 returns-2 : tie.Need-returns-2
-returns-2 c = c .later .ensures ∙ later-next (c .before .before .before .args .reading) (c .before .before .before .args .s .now) (c .before .before .before .args .at) (c .before .if1 .left)
+returns-2 c = c .next-past-start .ensures ∙ later-next (c .before .before .before .args .reading) (c .before .before .before .args .s .now) (c .before .before .before .args .at) (c .before .if1 .left)
 
 pub next-token-spec : {M : Type 1} → statement M
-next-token-spec = tie.close (tie.spec next-requires returns later-requires returns-2)
+next-token-spec = tie.close (tie.spec next-requires returns next-past-start-requires returns-2)

@@ -1,3 +1,4 @@
+-- Made from fills/tell.py by tools/prove.py: change that, not this.
 use mathlib.Core.Path.{sym, ap}
 use borrow.Author.Needs.{needs}
 use Rattle.look_answers.specs.Told.{numberTold, wordsTold}

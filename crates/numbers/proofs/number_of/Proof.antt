@@ -1,3 +1,4 @@
+-- Made from fills/numbers.py by tools/prove.py: change that, not this.
 -- An arm for each kind: what it knows of the kind goes through `numberOf`. Assumes nothing.
 use mathlib.Core.Path.{sym, ap, _∙_}
 use borrow.Author.Needs.{needs}

@@ -1,3 +1,4 @@
+-- Made from fills/operators.py by tools/prove.py: change that, not this.
 use borrow.Author.Tests.{eq-eqb, ne-eqb}
 use Rattle.operators.proofs.if_is.Statement.{statement}
 use Rattle.operators.proofs.if_is.Tie as tie

@@ -1,3 +1,4 @@
+-- Made from fills/operators.py by tools/prove.py: change that, not this.
 use mathlib.Core.Path.{sym, _∙_}
 use borrow.Author.Needs.{needs}
 use Rattle.operators.specs.Operators.{findOne}

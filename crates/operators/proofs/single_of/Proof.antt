@@ -1,3 +1,4 @@
+-- Made from fills/operators.py by tools/prove.py: change that, not this.
 use mathlib.Core.Path.{sym, ap}
 use borrow.Author.Tests.{ne-eqb}
 use Rattle.operators.specs.Operators.{lookOne, ones}

@@ -1,3 +1,4 @@
+-- Made from fills/operators.py by tools/prove.py: change that, not this.
 use borrow.Author.Needs.{needs}
 use borrow.Author.Tests.{ne-eqb}
 use Rattle.laws.proofs.Cases.{both-false, both-true}

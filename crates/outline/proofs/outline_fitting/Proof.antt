@@ -1,14 +1,16 @@
-use mathlib.Core.Path.{sym, _∙_}
+-- Made from fills/outline.py by tools/prove.py: change that, not this.
+use mathlib.Core.Path.{sym, ap, _∙_}
 use borrow.Author.Needs.{needs}
 use borrow.Author.Tests.{le-ltb, lt-ltb}
+use Rattle.outline.specs.declared.Outlined.the-variants.{Stopped}
 use Rattle.outline.proofs.outline_fitting.Statement.{statement}
 use Rattle.outline.proofs.outline_fitting.Tie as tie
 
-refused-at-requires : tie.Need-refused-at-requires
-refused-at-requires c κs = search needs
+point-requires : tie.Need-point-requires
+point-requires c κs = search needs
 
 returns : tie.Need-returns
-returns c = (c .refused-at .ensures ∙ sym (simp (lt-ltb _ _ (c .before .if1 .taken))), sym (simp (lt-ltb _ _ (c .before .if1 .taken))))
+returns c = (ap Stopped (c .point .ensures) ∙ sym (simp (lt-ltb _ _ (c .before .if1 .taken))), sym (simp (lt-ltb _ _ (c .before .if1 .taken))))
 
 outline-tokens-requires : tie.Need-outline-tokens-requires
 outline-tokens-requires c κs = c .before .if1 .left
@@ -21,4 +23,4 @@ returns-2 c = (c .before .before .outline-tokens .ensures .0 ∙ sym (simp (le-l
 
 pub outline-fitting-spec : {M : Type 1} → statement M
 outline-fitting-spec =
-    tie.close (tie.spec refused-at-requires returns outline-tokens-requires same-length returns-2)
+    tie.close (tie.spec point-requires returns outline-tokens-requires same-length returns-2)

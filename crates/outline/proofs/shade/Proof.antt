@@ -1,3 +1,4 @@
+-- Made from fills/outline.py by tools/prove.py: change that, not this.
 use mathlib.Core.Path.{sym}
 use Rattle.outline.proofs.Shading.{shade-before, shade-behind, shade-in}
 use Rattle.outline.proofs.shade.Statement.{statement}

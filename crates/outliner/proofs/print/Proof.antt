@@ -1,3 +1,4 @@
+-- Made from fills/main.py by tools/prove.py: change that, not this.
 -- The outline is as long as the source, and the lent bytes hold it. Assumes nothing.
 use mathlib.Core.Path.{sym}
 use native.Mathlib.Omega.{arith}

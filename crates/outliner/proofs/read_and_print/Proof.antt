@@ -1,3 +1,4 @@
+-- Made from fills/main.py by tools/prove.py: change that, not this.
 -- What was read lies inside the source. Assumes nothing.
 use native.Mathlib.Omega.{arith}
 use borrow.Author.Needs.{needs}

@@ -1,10 +1,11 @@
+-- Made from fills/face.py by tools/prove.py: change that, not this.
 use mathlib.Core.Path.{refl, sym, ap, _∙_}
 use borrow.Author.Needs.{needs}
 use lib.ListN.{length}
 use Rattle.answers.proofs.Promises.{tells}
 use Rattle.answers.proofs.Readings.{left-none, left-one}
 use Rattle.answers.specs.Told.{ofOutlined}
-use Rattle.outline.specs.Outline.{outlineOf, writtenOf}
+use Rattle.outline.specs.Outline.{outlineOf, outlineWritten}
 use Rattle.readers.specs.declared.reading.Reading.{Reading}
 use Rattle.puffsatchel.proofs.puffsatchel_outline.Statement.{statement}
 use Rattle.puffsatchel.proofs.puffsatchel_outline.Tie as tie
@@ -25,7 +26,7 @@ tell-requires : tie.Need-tell-requires
 tell-requires c κs = search needs
 
 returns : tie.Need-returns
-returns c = left-none (c .before .before .before .before .before .before .before .before .args .reading) (λ (g : Reading). ofOutlined (outlineOf g (c .before .before .before .before .before .before .before .before .args .source .now) (length (c .before .before .before .before .before .before .before .before .args .out .now)))) _ _ (λ (g : Reading). writtenOf g (c .before .before .before .before .before .before .before .before .args .source .now) (length (c .before .before .before .before .before .before .before .before .args .out .now))) (c .before .before .before .before .before .before .before .before .args .out .now) _ (sym (c .before .before .before .enum-told .given .1) ∙ c .before .before .before .before .before .reading-of .ensures) (tells _ _ _ _ (c .tell .ensures) (c .before .before .point .ensures)) refl
+returns c = left-none (c .before .before .before .before .before .before .before .before .args .reading) (λ (g : Reading). ofOutlined (outlineOf g (c .before .before .before .before .before .before .before .before .args .source .now) (length (c .before .before .before .before .before .before .before .before .args .out .now)))) _ _ (λ (g : Reading). outlineWritten g (c .before .before .before .before .before .before .before .before .args .source .now) (length (c .before .before .before .before .before .before .before .before .args .out .now))) (c .before .before .before .before .before .before .before .before .args .out .now) _ (sym (c .before .before .before .enum-told .given .1) ∙ c .before .before .before .before .before .reading-of .ensures) (tells _ _ _ _ (c .tell .ensures) (c .before .before .point .ensures)) refl
 
 outline-requires : tie.Need-outline-requires
 outline-requires c κs = search needs
@@ -40,7 +41,7 @@ same-length : tie.Need-same-length
 same-length c = search needs
 
 returns-2 : tie.Need-returns-2
-returns-2 c = left-one (c .before .before .before .before .before .before .before .before .before .before .before .before .before .args .reading) (λ (g : Reading). ofOutlined (outlineOf g (c .before .before .before .before .before .before .before .before .before .before .before .before .before .args .source .now) (length (c .before .before .before .before .before .before .before .before .before .before .before .before .before .args .out .now)))) _ _ (λ (g : Reading). writtenOf g (c .before .before .before .before .before .before .before .before .before .before .before .before .before .args .source .now) (length (c .before .before .before .before .before .before .before .before .before .before .before .before .before .args .out .now))) (c .before .before .before .before .before .before .before .before .before .before .before .before .before .args .out .now) _ (c .before .before .before .before .before .before .before .before .known .given .0 .0) (sym (c .before .before .before .before .before .before .before .before .known .given .1) ∙ c .before .before .before .before .before .before .before .before .before .before .reading-of .ensures) (tells _ _ _ _ (c .tell2 .ensures) (c .before .before .of-outlined .ensures ∙ ap ofOutlined (c .before .before .before .before .before .outline .ensures .0))) (c .before .before .before .before .before .outline .ensures .1)
+returns-2 c = left-one (c .before .before .before .before .before .before .before .before .before .before .before .before .before .args .reading) (λ (g : Reading). ofOutlined (outlineOf g (c .before .before .before .before .before .before .before .before .before .before .before .before .before .args .source .now) (length (c .before .before .before .before .before .before .before .before .before .before .before .before .before .args .out .now)))) _ _ (λ (g : Reading). outlineWritten g (c .before .before .before .before .before .before .before .before .before .before .before .before .before .args .source .now) (length (c .before .before .before .before .before .before .before .before .before .before .before .before .before .args .out .now))) (c .before .before .before .before .before .before .before .before .before .before .before .before .before .args .out .now) _ (c .before .before .before .before .before .before .before .before .known .given .0 .0) (sym (c .before .before .before .before .before .before .before .before .known .given .1) ∙ c .before .before .before .before .before .before .before .before .before .before .reading-of .ensures) (tells _ _ _ _ (c .tell2 .ensures) (c .before .before .of-outlined .ensures ∙ ap ofOutlined (c .before .before .before .before .before .outline .ensures .0))) (c .before .before .before .before .before .outline .ensures .1)
 
 pub puffsatchel-outline-spec : {M : Type 1} → statement M
 puffsatchel-outline-spec =

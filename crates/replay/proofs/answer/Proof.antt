@@ -1,3 +1,4 @@
+-- Made from fills/main.py by tools/prove.py: change that, not this.
 -- The part of the lent bytes that is read into lies inside them. Assumes nothing.
 use mathlib.Core.Path.{sym}
 use borrow.Author.Needs.{needs}

@@ -1,3 +1,4 @@
+-- Made from fills/main.py by tools/prove.py: change that, not this.
 -- What is left to read falls. Assumes nothing.
 use mathlib.Core.Path.{_≡_, sym}
 use borrow.Author.Needs.{needs}

@@ -1,42 +1,20 @@
+-- Made from fills/main.py by tools/prove.py: change that, not this.
 -- The number of turns falls. Assumes nothing.
-use mathlib.Core.Path.{_≡_}
 use borrow.Author.Needs.{needs}
-use lib.ListN.{length}
 use Rattle.replay_look.proofs.answer_all.Statement.{statement}
 use Rattle.replay_look.proofs.answer_all.Tie as tie
 
 abbrev Inv-loop : tie.InvT-loop
-Inv-loop source₀ script₀ list₀ written₀ out₀ waiting₀ turns₀ source script list written out waiting turns = (length source ≡ length source₀) × (length script ≡ length script₀) × (length list ≡ length list₀) × (length written ≡ length written₀) × (length out ≡ length out₀)
+Inv-loop payload₀ list₀ written₀ turns₀ payload list written turns = Unit {0}
 
 abbrev μ-loop : tie.MeasureT-loop
-μ-loop source₀ script₀ list₀ written₀ out₀ waiting₀ turns₀ source script list written out waiting turns = turns
+μ-loop payload₀ list₀ written₀ turns₀ payload list written turns = turns
 
 loop-holds : tie.Need-loop-holds Inv-loop μ-loop
 loop-holds c = search needs
 
 turn-requires : tie.Need-turn-requires Inv-loop μ-loop
 turn-requires c κs = search needs
-
-enum-known-now : tie.Need-enum-known-now Inv-loop μ-loop
-enum-known-now c = search needs
-
-enum-told : tie.Need-enum-told Inv-loop μ-loop
-enum-told c = search needs
-
-same-length : tie.Need-same-length Inv-loop μ-loop
-same-length c = search needs
-
-same-length-2 : tie.Need-same-length-2 Inv-loop μ-loop
-same-length-2 c = search needs
-
-same-length-3 : tie.Need-same-length-3 Inv-loop μ-loop
-same-length-3 c = search needs
-
-same-length-4 : tie.Need-same-length-4 Inv-loop μ-loop
-same-length-4 c = search needs
-
-same-length-5 : tie.Need-same-length-5 Inv-loop μ-loop
-same-length-5 c = search needs
 
 returns : tie.Need-returns Inv-loop μ-loop
 returns c = search needs
@@ -50,21 +28,6 @@ loop-less c = search needs
 loop-again : tie.Need-loop-again Inv-loop μ-loop
 loop-again c = search needs
 
-same-length-6 : tie.Need-same-length-6 Inv-loop μ-loop
-same-length-6 c = search needs
-
-same-length-7 : tie.Need-same-length-7 Inv-loop μ-loop
-same-length-7 c = search needs
-
-same-length-8 : tie.Need-same-length-8 Inv-loop μ-loop
-same-length-8 c = search needs
-
-same-length-9 : tie.Need-same-length-9 Inv-loop μ-loop
-same-length-9 c = search needs
-
-same-length-10 : tie.Need-same-length-10 Inv-loop μ-loop
-same-length-10 c = search needs
-
 returns-2 : tie.Need-returns-2 Inv-loop μ-loop
 returns-2 c = search needs
 
@@ -76,20 +39,8 @@ answer-all-spec =
     μ-loop
     loop-holds
     turn-requires
-    enum-known-now
-    enum-told
-    same-length
-    same-length-2
-    same-length-3
-    same-length-4
-    same-length-5
     returns
     sub-turns
     loop-less
     loop-again
-    same-length-6
-    same-length-7
-    same-length-8
-    same-length-9
-    same-length-10
     returns-2)

@@ -1,3 +1,4 @@
+-- Made from fills/rows.py by tools/prove.py: change that, not this.
 -- The invariant: what is left of the check gives the answer. Assumes nothing.
 use Prim.Native.Nat.{_-_}
 use mathlib.Core.Path.{_∙_}

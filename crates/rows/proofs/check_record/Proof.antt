@@ -1,3 +1,4 @@
+-- Made from fills/rows.py by tools/prove.py: change that, not this.
 use mathlib.Core.Path.{_∙_}
 use borrow.Author.Needs.{needs}
 use Rattle.rows.proofs.Rows.{record-empty, record-gap, record-high, record-low, record-sound}

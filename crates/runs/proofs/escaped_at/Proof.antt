@@ -1,3 +1,4 @@
+-- Made from fills/runs.py by tools/prove.py: change that, not this.
 use mathlib.Core.Path.{_∙_}
 use borrow.Author.Needs.{needs}
 use Rattle.runs.proofs.Shorts.{escaped-end, escaped-here, escaped-other}

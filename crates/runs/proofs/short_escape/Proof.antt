@@ -1,3 +1,4 @@
+-- Made from fills/runs.py by tools/prove.py: change that, not this.
 use mathlib.Core.Path.{sym, ap}
 use Rattle.runs.proofs.Shorts.{no-short}
 use Rattle.runs.specs.Runs.{shortOf}

@@ -1,3 +1,4 @@
+-- Made from fills/lib.py by tools/prove.py: change that, not this.
 -- Either answer of `scalar_at` is a step. Assumes nothing.
 use mathlib.Core.Path.{sym, _∙_}
 use borrow.Author.Needs.{needs}

@@ -1,3 +1,4 @@
+-- Made from fills/strings.py by tools/prove.py: change that, not this.
 use Prim.Native.Nat.{_-_}
 use mathlib.Core.Path.{refl, sym, ap, _∙_}
 use native.Mathlib.Omega.{arith}
@@ -5,7 +6,7 @@ use borrow.Author.Needs.{needs}
 use lib.ListN.{length}
 use Rattle.readers.proofs.Scans.{Goes, goes-behind, goes-cut, goes-end, goes-on, scan-end}
 use Rattle.readers.proofs.Steps.{byte-close, byte-control, byte-more, byte-slash}
-use Rattle.readers.specs.Readers.{Bytes, body, byteAnswer, byteOf, byteStep, control, fresh, slash}
+use Rattle.readers.specs.Readers.{Bytes, body, byteAnswer, byteOf, byteStep, control, fresh, backslashed}
 use Rattle.readers.specs.Scan.{Stop, scan}
 use Rattle.text.proofs.Decode.{step-none, step-one}
 use Rattle.text.specs.Utf8.{first, rest, width}
@@ -68,14 +69,14 @@ refused-requires-3 c κs = search needs
 
 returns-3 : tie.Need-returns-3 Inv-loop μ-loop
 unfolding byteOf
-returns-3 c = c .refused3 .ensures ∙ ap (λ (o : Stop Bytes). byteAnswer (c .before .before .before .before .before .before .before .before .before .before .before .before .before .before .before .args .start) (o .state) (o .last) (o .place) (o .how)) (goes-cut byteStep body (c .before .before .before .before .before .before .before .before .before .before .before .before .before .before .before .args .s .now) (c .before .before .before .before .before .before .before .before .before .loop .p) (scan byteStep width fresh (c .before .before .before .before .before .before .before .before .before .before .before .before .before .before .before .args .at) (rest (c .before .before .before .before .before .before .before .before .before .before .before .before .before .before .before .args .s .now) (c .before .before .before .before .before .before .before .before .before .before .before .before .before .before .before .args .at)) (c .before .before .before .before .before .before .before .before .before .before .before .before .before .before .before .args .at)) (c .before .before .before .before .before .before .before .before .before .loop .inv) (c .before .before .before .before .before .before .value .given .0 .0) (c .before .before .before .before .before .before .value .given .0 .1 .0) (step-one (c .before .before .before .before .before .before .before .before .before .before .before .before .before .before .before .args .s .now) (c .before .before .before .before .before .before .before .before .before .loop .p) (c .before .before .before .before .before .before .value .given .0 .0) (c .before .before .before .before .before .before .value .given .0 .1 .0) (sym (c .before .before .before .before .before .before .before .before .scalar-at2 .ensures) ∙ c .before .before .before .before .before .before .value .given .1)) slash (byte-slash (c .before .before .before .before .before .before .value .given .0 .0) (rest (c .before .before .before .before .before .before .before .before .before .before .before .before .before .before .before .args .s .now) (c .before .before .before .before .before .before .value .given .0 .1 .0)) (c .before .before .before .before .if1 .taken)) (step-none (c .before .before .before .before .before .before .before .before .before .before .before .before .before .before .before .args .s .now) (c .before .before .before .before .before .before .value .given .0 .1 .0) (sym (c .before .before .before .scalar-at3 .ensures) ∙ c .before .enum-told3 .given .1)))
+returns-3 c = c .refused3 .ensures ∙ ap (λ (o : Stop Bytes). byteAnswer (c .before .before .before .before .before .before .before .before .before .before .before .before .before .before .before .args .start) (o .state) (o .last) (o .place) (o .how)) (goes-cut byteStep body (c .before .before .before .before .before .before .before .before .before .before .before .before .before .before .before .args .s .now) (c .before .before .before .before .before .before .before .before .before .loop .p) (scan byteStep width fresh (c .before .before .before .before .before .before .before .before .before .before .before .before .before .before .before .args .at) (rest (c .before .before .before .before .before .before .before .before .before .before .before .before .before .before .before .args .s .now) (c .before .before .before .before .before .before .before .before .before .before .before .before .before .before .before .args .at)) (c .before .before .before .before .before .before .before .before .before .before .before .before .before .before .before .args .at)) (c .before .before .before .before .before .before .before .before .before .loop .inv) (c .before .before .before .before .before .before .value .given .0 .0) (c .before .before .before .before .before .before .value .given .0 .1 .0) (step-one (c .before .before .before .before .before .before .before .before .before .before .before .before .before .before .before .args .s .now) (c .before .before .before .before .before .before .before .before .before .loop .p) (c .before .before .before .before .before .before .value .given .0 .0) (c .before .before .before .before .before .before .value .given .0 .1 .0) (sym (c .before .before .before .before .before .before .before .before .scalar-at2 .ensures) ∙ c .before .before .before .before .before .before .value .given .1)) backslashed (byte-slash (c .before .before .before .before .before .before .value .given .0 .0) (rest (c .before .before .before .before .before .before .before .before .before .before .before .before .before .before .before .args .s .now) (c .before .before .before .before .before .before .value .given .0 .1 .0)) (c .before .before .before .before .if1 .taken)) (step-none (c .before .before .before .before .before .before .before .before .before .before .before .before .before .before .before .args .s .now) (c .before .before .before .before .before .before .value .given .0 .1 .0) (sym (c .before .before .before .scalar-at3 .ensures) ∙ c .before .enum-told3 .given .1)))
 
 loop-less : tie.Need-loop-less Inv-loop μ-loop
 loop-less c = let t = (step-one (c .before .before .before .before .before .before .before .before .before .before .before .before .before .before .before .args .s .now) (c .before .before .before .before .before .before .before .before .before .loop .p) (c .before .before .before .before .before .before .value .given .0 .0) (c .before .before .before .before .before .before .value .given .0 .1 .0) (sym (c .before .before .before .before .before .before .before .before .scalar-at2 .ensures) ∙ c .before .before .before .before .before .before .value .given .1)) in let u = (step-one (c .before .before .before .before .before .before .before .before .before .before .before .before .before .before .before .args .s .now) (c .before .before .before .before .before .before .value .given .0 .1 .0) (c .before .after .given .0 .0) (c .before .after .given .0 .1 .0) (sym (c .before .before .before .scalar-at3 .ensures) ∙ c .before .after .given .1)) in omega arith
 
 loop-again : tie.Need-loop-again Inv-loop μ-loop
 unfolding byteStep
-loop-again c = goes-on byteStep slash (c .before .before .before .before .before .before .before .before .before .before .before .before .before .before .before .args .s .now) (c .before .before .before .before .before .before .value .given .0 .1 .0) (scan byteStep width fresh (c .before .before .before .before .before .before .before .before .before .before .before .before .before .before .before .args .at) (rest (c .before .before .before .before .before .before .before .before .before .before .before .before .before .before .before .args .s .now) (c .before .before .before .before .before .before .before .before .before .before .before .before .before .before .before .args .at)) (c .before .before .before .before .before .before .before .before .before .before .before .before .before .before .before .args .at)) (goes-on byteStep body (c .before .before .before .before .before .before .before .before .before .before .before .before .before .before .before .args .s .now) (c .before .before .before .before .before .before .before .before .before .loop .p) (scan byteStep width fresh (c .before .before .before .before .before .before .before .before .before .before .before .before .before .before .before .args .at) (rest (c .before .before .before .before .before .before .before .before .before .before .before .before .before .before .before .args .s .now) (c .before .before .before .before .before .before .before .before .before .before .before .before .before .before .before .args .at)) (c .before .before .before .before .before .before .before .before .before .before .before .before .before .before .before .args .at)) (c .before .before .before .before .before .before .before .before .before .loop .inv) (c .before .before .before .before .before .before .value .given .0 .0) (c .before .before .before .before .before .before .value .given .0 .1 .0) (step-one (c .before .before .before .before .before .before .before .before .before .before .before .before .before .before .before .args .s .now) (c .before .before .before .before .before .before .before .before .before .loop .p) (c .before .before .before .before .before .before .value .given .0 .0) (c .before .before .before .before .before .before .value .given .0 .1 .0) (sym (c .before .before .before .before .before .before .before .before .scalar-at2 .ensures) ∙ c .before .before .before .before .before .before .value .given .1)) slash (byte-slash (c .before .before .before .before .before .before .value .given .0 .0) (rest (c .before .before .before .before .before .before .before .before .before .before .before .before .before .before .before .args .s .now) (c .before .before .before .before .before .before .value .given .0 .1 .0)) (c .before .before .before .before .if1 .taken))) _ _ (step-one (c .before .before .before .before .before .before .before .before .before .before .before .before .before .before .before .args .s .now) (c .before .before .before .before .before .before .value .given .0 .1 .0) (c .before .after .given .0 .0) (c .before .after .given .0 .1 .0) (sym (c .before .before .before .scalar-at3 .ensures) ∙ c .before .after .given .1)) body refl
+loop-again c = goes-on byteStep backslashed (c .before .before .before .before .before .before .before .before .before .before .before .before .before .before .before .args .s .now) (c .before .before .before .before .before .before .value .given .0 .1 .0) (scan byteStep width fresh (c .before .before .before .before .before .before .before .before .before .before .before .before .before .before .before .args .at) (rest (c .before .before .before .before .before .before .before .before .before .before .before .before .before .before .before .args .s .now) (c .before .before .before .before .before .before .before .before .before .before .before .before .before .before .before .args .at)) (c .before .before .before .before .before .before .before .before .before .before .before .before .before .before .before .args .at)) (goes-on byteStep body (c .before .before .before .before .before .before .before .before .before .before .before .before .before .before .before .args .s .now) (c .before .before .before .before .before .before .before .before .before .loop .p) (scan byteStep width fresh (c .before .before .before .before .before .before .before .before .before .before .before .before .before .before .before .args .at) (rest (c .before .before .before .before .before .before .before .before .before .before .before .before .before .before .before .args .s .now) (c .before .before .before .before .before .before .before .before .before .before .before .before .before .before .before .args .at)) (c .before .before .before .before .before .before .before .before .before .before .before .before .before .before .before .args .at)) (c .before .before .before .before .before .before .before .before .before .loop .inv) (c .before .before .before .before .before .before .value .given .0 .0) (c .before .before .before .before .before .before .value .given .0 .1 .0) (step-one (c .before .before .before .before .before .before .before .before .before .before .before .before .before .before .before .args .s .now) (c .before .before .before .before .before .before .before .before .before .loop .p) (c .before .before .before .before .before .before .value .given .0 .0) (c .before .before .before .before .before .before .value .given .0 .1 .0) (sym (c .before .before .before .before .before .before .before .before .scalar-at2 .ensures) ∙ c .before .before .before .before .before .before .value .given .1)) backslashed (byte-slash (c .before .before .before .before .before .before .value .given .0 .0) (rest (c .before .before .before .before .before .before .before .before .before .before .before .before .before .before .before .args .s .now) (c .before .before .before .before .before .before .value .given .0 .1 .0)) (c .before .before .before .before .if1 .taken))) _ _ (step-one (c .before .before .before .before .before .before .before .before .before .before .before .before .before .before .before .args .s .now) (c .before .before .before .before .before .before .value .given .0 .1 .0) (c .before .after .given .0 .0) (c .before .after .given .0 .1 .0) (sym (c .before .before .before .scalar-at3 .ensures) ∙ c .before .after .given .1)) body refl
 
 got-requires : tie.Need-got-requires Inv-loop μ-loop
 got-requires c κs = search needs

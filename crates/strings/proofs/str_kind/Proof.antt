@@ -1,3 +1,4 @@
+-- Made from fills/strings.py by tools/prove.py: change that, not this.
 use mathlib.Core.Path.{sym, ap}
 use mathlib.Core.Bool.{Bool}
 use Rattle.readers.specs.Readers.{strKind}

@@ -1,3 +1,4 @@
+-- Made from fills/templates.py by tools/prove.py: change that, not this.
 -- The remaining depth falls: twice it, and one more for a template. Every answer cites a turn law. Assumes nothing.
 use Prim.Native.Nat.{ℕ, _+_, _-_, _*_, _<_}
 use mathlib.Core.Path.{_≡_, refl, sym, ap, _∙_}
@@ -6,7 +7,7 @@ use borrow.Author.Needs.{needs}
 use lib.ListN.{length}
 use Rattle.readers.specs.Rules.{rulesOf}
 use Rattle.templates.proofs.Turns.{after-deep, after-got, after-refused, body-close, body-down, body-end, body-other, body-up, body-within, deep-none, deep-some, down-is, reached-past, reached-room, token-deep, token-end, token-plain}
-use Rattle.templates.specs.Body.{bodyOf, templateOf, tokenOf}
+use Rattle.templates.specs.Body.{templateBody, templateOf, tokenOf}
 use Rattle.text.proofs.Decode.{step-none, step-one}
 use Rattle.text.specs.Utf8.{rest}
 use Rattle.token.specs.Reads.{reachedOf}
@@ -55,7 +56,7 @@ read-token-below t =
     and 1 read-token-kinds.ps (falls 1 read-token-kinds.ps _<_ μ-read-token t) read-token.Pre
 
 abbrev read-template-Inv-loop : read-template-lts.InvT-loop
-read-template-Inv-loop s reading start at depth p₀ level₀ p level = (bodyOf (rulesOf reading) (tokenOf (rulesOf reading) depth) start 0 (rest s p) p level ≡ templateOf (rulesOf reading) (tokenOf (rulesOf reading) depth) start (rest s at) at) × (level < 4294967296)
+read-template-Inv-loop s reading start at depth p₀ level₀ p level = (templateBody (rulesOf reading) (tokenOf (rulesOf reading) depth) start 0 (rest s p) p level ≡ templateOf (rulesOf reading) (tokenOf (rulesOf reading) depth) start (rest s at) at) × (level < 4294967296)
 
 abbrev read-template-μ-loop : read-template-lts.MeasureT-loop
 read-template-μ-loop s reading start at depth p₀ level₀ p level = length s - p
@@ -268,7 +269,7 @@ read-template-loop-again-2 : (t : ℕ) → read-template-lts.Need-loop-again-2 (
   refused-reads.Asked,
   refused-reads.Learnt,
 ) (read-template-at t) read-template.Post read-template-Inv-loop read-template-μ-loop
-read-template-loop-again-2 t c = (ap (bodyOf (rulesOf (c .before .before .before .before .before .before .before .before .before .args .reading)) (tokenOf (rulesOf (c .before .before .before .before .before .before .before .before .before .args .reading)) (c .before .before .before .before .before .before .before .before .before .args .depth)) (c .before .before .before .before .before .before .before .before .before .args .start) 0 (rest (c .before .before .before .before .before .before .before .before .before .args .s .now) (c .before .before .before .before .value .given .0 .1 .0)) (c .before .before .before .before .value .given .0 .1 .0)) (c .wrapping-add-u32 .ensures) ∙ body-up (c .before .before .before .before .before .before .before .before .before .args .reading) (tokenOf (rulesOf (c .before .before .before .before .before .before .before .before .before .args .reading)) (c .before .before .before .before .before .before .before .before .before .args .depth)) (c .before .before .before .before .before .before .before .before .before .args .start) (c .before .before .before .before .before .before .before .before .before .args .s .now) (c .before .before .before .before .before .before .before .loop .p) (c .before .before .before .before .before .before .before .loop .level) (c .before .before .before .before .value .given .0 .0) (c .before .before .before .before .value .given .0 .1 .0) (step-one (c .before .before .before .before .before .before .before .before .before .args .s .now) (c .before .before .before .before .before .before .before .loop .p) (c .before .before .before .before .value .given .0 .0) (c .before .before .before .before .value .given .0 .1 .0) (sym (c .before .before .before .before .before .before .scalar-at .ensures) ∙ c .before .before .before .before .value .given .1)) (c .before .if3 .taken) ∙ c .before .before .before .before .before .before .before .loop .inv .0, omega arith)
+read-template-loop-again-2 t c = (ap (templateBody (rulesOf (c .before .before .before .before .before .before .before .before .before .args .reading)) (tokenOf (rulesOf (c .before .before .before .before .before .before .before .before .before .args .reading)) (c .before .before .before .before .before .before .before .before .before .args .depth)) (c .before .before .before .before .before .before .before .before .before .args .start) 0 (rest (c .before .before .before .before .before .before .before .before .before .args .s .now) (c .before .before .before .before .value .given .0 .1 .0)) (c .before .before .before .before .value .given .0 .1 .0)) (c .wrapping-add-u32 .ensures) ∙ body-up (c .before .before .before .before .before .before .before .before .before .args .reading) (tokenOf (rulesOf (c .before .before .before .before .before .before .before .before .before .args .reading)) (c .before .before .before .before .before .before .before .before .before .args .depth)) (c .before .before .before .before .before .before .before .before .before .args .start) (c .before .before .before .before .before .before .before .before .before .args .s .now) (c .before .before .before .before .before .before .before .loop .p) (c .before .before .before .before .before .before .before .loop .level) (c .before .before .before .before .value .given .0 .0) (c .before .before .before .before .value .given .0 .1 .0) (step-one (c .before .before .before .before .before .before .before .before .before .args .s .now) (c .before .before .before .before .before .before .before .loop .p) (c .before .before .before .before .value .given .0 .0) (c .before .before .before .before .value .given .0 .1 .0) (sym (c .before .before .before .before .before .before .scalar-at .ensures) ∙ c .before .before .before .before .value .given .1)) (c .before .if3 .taken) ∙ c .before .before .before .before .before .before .before .loop .inv .0, omega arith)
 
 read-template-wrapping-sub-u32-requires :
     (t : ℕ) → read-template-lts.Need-wrapping-sub-u32-requires (
@@ -317,7 +318,7 @@ read-template-loop-again-3 : (t : ℕ) → read-template-lts.Need-loop-again-3 (
   refused-reads.Asked,
   refused-reads.Learnt,
 ) (read-template-at t) read-template.Post read-template-Inv-loop read-template-μ-loop
-read-template-loop-again-3 t c = (ap (bodyOf (rulesOf (c .before .before .before .before .before .before .before .before .before .before .args .reading)) (tokenOf (rulesOf (c .before .before .before .before .before .before .before .before .before .before .args .reading)) (c .before .before .before .before .before .before .before .before .before .before .args .depth)) (c .before .before .before .before .before .before .before .before .before .before .args .start) 0 (rest (c .before .before .before .before .before .before .before .before .before .before .args .s .now) (c .before .before .before .before .before .value .given .0 .1 .0)) (c .before .before .before .before .before .value .given .0 .1 .0)) (down-is (c .before .before .before .before .before .before .before .before .loop .level) (c .wrapping-sub-u32 .result) (c .before .before .before .before .before .before .before .before .loop .inv .1) (omega (arith, c .wrapping-sub-u32 .ok)) (c .wrapping-sub-u32 .ensures)) ∙ body-down (c .before .before .before .before .before .before .before .before .before .before .args .reading) (tokenOf (rulesOf (c .before .before .before .before .before .before .before .before .before .before .args .reading)) (c .before .before .before .before .before .before .before .before .before .before .args .depth)) (c .before .before .before .before .before .before .before .before .before .before .args .start) (c .before .before .before .before .before .before .before .before .before .before .args .s .now) (c .before .before .before .before .before .before .before .before .loop .p) (c .before .before .before .before .before .before .before .before .loop .level) (c .before .before .before .before .before .value .given .0 .0) (c .before .before .before .before .before .value .given .0 .1 .0) (step-one (c .before .before .before .before .before .before .before .before .before .before .args .s .now) (c .before .before .before .before .before .before .before .before .loop .p) (c .before .before .before .before .before .value .given .0 .0) (c .before .before .before .before .before .value .given .0 .1 .0) (sym (c .before .before .before .before .before .before .before .scalar-at .ensures) ∙ c .before .before .before .before .before .value .given .1)) (c .before .if4 .taken) ∙ c .before .before .before .before .before .before .before .before .loop .inv .0, omega arith)
+read-template-loop-again-3 t c = (ap (templateBody (rulesOf (c .before .before .before .before .before .before .before .before .before .before .args .reading)) (tokenOf (rulesOf (c .before .before .before .before .before .before .before .before .before .before .args .reading)) (c .before .before .before .before .before .before .before .before .before .before .args .depth)) (c .before .before .before .before .before .before .before .before .before .before .args .start) 0 (rest (c .before .before .before .before .before .before .before .before .before .before .args .s .now) (c .before .before .before .before .before .value .given .0 .1 .0)) (c .before .before .before .before .before .value .given .0 .1 .0)) (down-is (c .before .before .before .before .before .before .before .before .loop .level) (c .wrapping-sub-u32 .result) (c .before .before .before .before .before .before .before .before .loop .inv .1) (omega (arith, c .wrapping-sub-u32 .ok)) (c .wrapping-sub-u32 .ensures)) ∙ body-down (c .before .before .before .before .before .before .before .before .before .before .args .reading) (tokenOf (rulesOf (c .before .before .before .before .before .before .before .before .before .before .args .reading)) (c .before .before .before .before .before .before .before .before .before .before .args .depth)) (c .before .before .before .before .before .before .before .before .before .before .args .start) (c .before .before .before .before .before .before .before .before .before .before .args .s .now) (c .before .before .before .before .before .before .before .before .loop .p) (c .before .before .before .before .before .before .before .before .loop .level) (c .before .before .before .before .before .value .given .0 .0) (c .before .before .before .before .before .value .given .0 .1 .0) (step-one (c .before .before .before .before .before .before .before .before .before .before .args .s .now) (c .before .before .before .before .before .before .before .before .loop .p) (c .before .before .before .before .before .value .given .0 .0) (c .before .before .before .before .before .value .given .0 .1 .0) (sym (c .before .before .before .before .before .before .before .scalar-at .ensures) ∙ c .before .before .before .before .before .value .given .1)) (c .before .if4 .taken) ∙ c .before .before .before .before .before .before .before .before .loop .inv .0, omega arith)
 
 read-template-read-token-requires : (t : ℕ) → read-template-lts.Need-read-token-requires (
   scalar-at-reads.Asked,

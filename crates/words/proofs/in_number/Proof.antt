@@ -1,3 +1,4 @@
+-- Made from fills/words.py by tools/prove.py: change that, not this.
 use mathlib.Core.Path.{sym, ap}
 use native.Mathlib.Omega.{arith}
 use borrow.Author.Tests.{ne-eqb}

@@ -1,3 +1,4 @@
+-- Made from fills/ahead.py by tools/prove.py: change that, not this.
 use borrow.Author.Needs.{needs}
 use Rattle.ahead.specs.declared.Ahead.{Ahead}
 use Rattle.ahead.proofs.Ahead.new.Statement.{statement}

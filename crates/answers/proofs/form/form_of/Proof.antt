@@ -1,3 +1,4 @@
+-- Made from fills/answers.py by tools/prove.py: change that, not this.
 use mathlib.Core.Path.{sym, ap}
 use Rattle.answers.proofs.Forms.{form-none}
 use Rattle.answers.specs.Told.{formOf}

@@ -1,3 +1,4 @@
+-- Made from fills/answers.py by tools/prove.py: change that, not this.
 use mathlib.Core.Path.{_≡_, sym, ap}
 use native.Mathlib.Omega.{arith}
 use Rattle.answers.proofs.Readings.{reading-none}

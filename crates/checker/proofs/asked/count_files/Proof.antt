@@ -1,3 +1,4 @@
+-- Made from fills/checker.py by tools/prove.py: change that, not this.
 -- The arguments left fall. Assumes nothing.
 use Prim.Native.Nat.{_-_}
 use mathlib.Core.Path.{_≡_}

@@ -1,23 +1,25 @@
+-- Made from fills/checker.py by tools/prove.py: change that, not this.
 -- The arguments left fall. Assumes nothing.
 use Prim.Native.Nat.{_-_}
-use mathlib.Core.Path.{_≡_}
 use borrow.Author.Needs.{needs}
-use lib.ListN.{length}
 use Rattle.readers.specs.Readers.{run}
 use Rattle.checker.proofs.files.check_files.Statement.{statement}
 use Rattle.checker.proofs.files.check_files.Tie as tie
 
 abbrev Inv-loop : tie.InvT-loop
-Inv-loop files name₀ source₀ store₀ out₀ count run₀ i₀ name source store out run i = (length name ≡ length name₀) × (length source ≡ length source₀) × (length store ≡ length store₀) × (length out ≡ length out₀)
+Inv-loop files name₀ source₀ store₀ count run₀ i₀ name source store run i = Unit {0}
 
 abbrev μ-loop : tie.MeasureT-loop
-μ-loop files name₀ source₀ store₀ out₀ count run₀ i₀ name source store out run i = count - i
+μ-loop files name₀ source₀ store₀ count run₀ i₀ name source store run i = count - i
 
 arg-count-requires : tie.Need-arg-count-requires Inv-loop μ-loop
 arg-count-requires c κs = search needs
 
 default-settings-requires : tie.Need-default-settings-requires Inv-loop μ-loop
 default-settings-requires c κs = search needs
+
+blank-requires : tie.Need-blank-requires Inv-loop μ-loop
+blank-requires c κs = search needs
 
 nothing-requires : tie.Need-nothing-requires Inv-loop μ-loop
 nothing-requires c κs = search needs
@@ -40,18 +42,6 @@ loop-again c = search needs
 put-last-line-requires : tie.Need-put-last-line-requires Inv-loop μ-loop
 put-last-line-requires c κs = search needs
 
-same-length : tie.Need-same-length Inv-loop μ-loop
-same-length c = search needs
-
-same-length-2 : tie.Need-same-length-2 Inv-loop μ-loop
-same-length-2 c = search needs
-
-same-length-3 : tie.Need-same-length-3 Inv-loop μ-loop
-same-length-3 c = search needs
-
-same-length-4 : tie.Need-same-length-4 Inv-loop μ-loop
-same-length-4 c = search needs
-
 returns : tie.Need-returns Inv-loop μ-loop
 returns c = search needs
 
@@ -63,6 +53,7 @@ check-files-spec =
     μ-loop
     arg-count-requires
     default-settings-requires
+    blank-requires
     nothing-requires
     loop-holds
     take-argument-requires
@@ -70,8 +61,4 @@ check-files-spec =
     loop-less
     loop-again
     put-last-line-requires
-    same-length
-    same-length-2
-    same-length-3
-    same-length-4
     returns)

@@ -1,3 +1,4 @@
+-- Made from fills/checker.py by tools/prove.py: change that, not this.
 -- The records left fall. Assumes nothing.
 use Prim.Native.Nat.{_-_, _≤_, _<_}
 use borrow.Author.Needs.{needs}

@@ -1,16 +1,15 @@
+-- Made from fills/checker.py by tools/prove.py: change that, not this.
 -- Each finding takes a record or more. Assumes nothing.
 use Prim.Native.Nat.{_-_}
-use mathlib.Core.Path.{_≡_}
 use borrow.Author.Needs.{needs}
-use lib.ListN.{length}
 use Rattle.checker.proofs.records.put_records.Statement.{statement}
 use Rattle.checker.proofs.records.put_records.Tie as tie
 
 abbrev Inv-loop : tie.InvT-loop
-Inv-loop out₀ file s settings store count form told₀ n₀ out told n = length out ≡ length out₀
+Inv-loop file s settings store count layout told₀ n₀ told n = Unit {0}
 
 abbrev μ-loop : tie.MeasureT-loop
-μ-loop out₀ file s settings store count form told₀ n₀ out told n = count - n
+μ-loop file s settings store count layout told₀ n₀ told n = count - n
 
 loop-holds : tie.Need-loop-holds Inv-loop μ-loop
 loop-holds c = search needs
@@ -30,9 +29,6 @@ loop-less c = search needs
 loop-again : tie.Need-loop-again Inv-loop μ-loop
 loop-again c = search needs
 
-same-length : tie.Need-same-length Inv-loop μ-loop
-same-length c = search needs
-
 returns : tie.Need-returns Inv-loop μ-loop
 returns c = search needs
 
@@ -48,5 +44,4 @@ put-records-spec =
     add-n
     loop-less
     loop-again
-    same-length
     returns)

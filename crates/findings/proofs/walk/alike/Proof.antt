@@ -1,3 +1,4 @@
+-- Made from fills/walk.py by tools/prove.py: change that, not this.
 use mathlib.Core.Path.{sym, ap₂, _∙_}
 use borrow.Author.Needs.{needs}
 use Rattle.findings.specs.Findings.{alike, walk}

@@ -1,3 +1,4 @@
+-- Made from fills/walk.py by tools/prove.py: change that, not this.
 use Rattle.findings.proofs.Readings.{refused-end, refused-number, refused-reached, refused-start}
 use Rattle.findings.specs.Findings.{walk}
 use Rattle.findings.proofs.walk.alike_refused.Statement.{statement}

@@ -1,3 +1,4 @@
+-- Made from fills/walk.py by tools/prove.py: change that, not this.
 use borrow.Author.Needs.{needs}
 use Rattle.findings.proofs.Readings.{alone-comment, alone-open, alone-other, alone-shut}
 use Rattle.findings.specs.Findings.{alone, walk}

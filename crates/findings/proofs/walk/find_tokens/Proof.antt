@@ -1,3 +1,4 @@
+-- Made from fills/walk.py by tools/prove.py: change that, not this.
 -- The invariant: what is left to find gives the answer, and written after what is stored it gives the store. Assumes nothing.
 use Prim.Native.Nat.{_-_}
 use mathlib.Core.Path.{sym, ap, _∙_, subst}

@@ -1,3 +1,4 @@
+-- Made from fills/walk.py by tools/prove.py: change that, not this.
 use Prim.Native.Nat.{_-_}
 use mathlib.Core.Path.{_≡_, refl, sym, _∙_}
 use native.Mathlib.Omega.{arith}
@@ -7,7 +8,7 @@ use borrow.Author.Tests.{not-false, not-true}
 use Rattle.findings.proofs.Readings.{holds-end, holds-full, holds-on, holds-refused, holds-stop}
 use Rattle.findings.specs.Findings.{holds, holdsAt, walk}
 use Rattle.text.specs.Utf8.{from}
-use Rattle.tokens.proofs.Steps.{tokens-past, tokens-room}
+use Rattle.families.proofs.Steps.{tokens-past, tokens-room}
 use Rattle.findings.proofs.walk.holds.Statement.{statement}
 use Rattle.findings.proofs.walk.holds.Tie as tie
 

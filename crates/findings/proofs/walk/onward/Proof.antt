@@ -1,3 +1,4 @@
+-- Made from fills/walk.py by tools/prove.py: change that, not this.
 use Prim.Native.Nat.{_-_, _≤_}
 use mathlib.Core.Path.{_≡_, refl, sym, _∙_}
 use native.Mathlib.Omega.{arith}
@@ -7,8 +8,8 @@ use Rattle.findings.proofs.Readings.{go-onward, stay-end, stay-over, st
 use Rattle.findings.specs.Findings.{onward, underFirst, walk}
 use Rattle.lexer.specs.Next.{nextAt}
 use Rattle.readers.specs.Rules.{rulesOf}
-use Rattle.tokens.proofs.Steps.{tokens-past, tokens-room}
-use Rattle.tokens.specs.Tokens.{tokensAt}
+use Rattle.families.proofs.Steps.{tokens-past, tokens-room}
+use Rattle.families.specs.Tokens.{tokensAt}
 use Rattle.findings.proofs.walk.onward.Statement.{statement}
 use Rattle.findings.proofs.walk.onward.Tie as tie
 

@@ -1,3 +1,4 @@
+-- Made from fills/emit.py by tools/prove.py: change that, not this.
 -- The invariant: what is left, written after what is stored, gives the whole. Assumes nothing.
 use Prim.Native.Nat.{ℕ, _+_, _-_, _*_}
 use mathlib.Core.Path.{ap, _∙_}

@@ -1,3 +1,4 @@
+-- Made from fills/emits.py by tools/prove.py: change that, not this.
 use native.Mathlib.Omega.{arith}
 use borrow.Author.Needs.{needs}
 use Rattle.looks.proofs.Advances.{Advancing, advancing-end, advancing-first, advancing-more, advancing-room}

@@ -1,3 +1,4 @@
+-- Made from fills/emits.py by tools/prove.py: change that, not this.
 use Prim.Native.Nat.{_-_}
 use native.Mathlib.Omega.{arith}
 use borrow.Author.Needs.{needs}

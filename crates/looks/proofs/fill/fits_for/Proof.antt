@@ -1,3 +1,4 @@
+-- Made from fills/fill.py by tools/prove.py: change that, not this.
 use Prim.Native.Nat.{ℕ}
 use mathlib.Core.Path.{_≡_, refl, sym, ap₂, _∙_}
 use borrow.Author.Needs.{needs}

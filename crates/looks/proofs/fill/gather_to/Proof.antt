@@ -1,3 +1,4 @@
+-- Made from fills/fill.py by tools/prove.py: change that, not this.
 use mathlib.Core.Path.{_∙_}
 use borrow.Author.Needs.{needs}
 use Rattle.looks.proofs.Gathers.{gather-last, gather-more}

@@ -1,3 +1,4 @@
+-- Made from fills/fill.py by tools/prove.py: change that, not this.
 use borrow.Author.Needs.{needs}
 use borrow.Author.Tests.{le-ltb, lt-ltb}
 use Rattle.looks.specs.Buffer.{fill}

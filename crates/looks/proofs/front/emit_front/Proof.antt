@@ -1,3 +1,4 @@
+-- Made from fills/front.py by tools/prove.py: change that, not this.
 use Prim.Native.Nat.{ℕ, _+_, _*_}
 use mathlib.Core.Path.{ap, ap₂, _∙_}
 use mathlib.Core.List.{List, _++_}

@@ -1,3 +1,4 @@
+-- Made from fills/list.py by tools/prove.py: change that, not this.
 use mathlib.Core.Path.{sym}
 use borrow.Author.Tests.{le-leb}
 use Rattle.laws.proofs.Cases.{within-low}

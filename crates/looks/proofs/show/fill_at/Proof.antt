@@ -1,3 +1,4 @@
+-- Made from fills/show.py by tools/prove.py: change that, not this.
 use mathlib.Core.Path.{ap}
 use borrow.Author.Needs.{needs}
 use Rattle.looks.proofs.Answers.{asked-no, asked-yes}

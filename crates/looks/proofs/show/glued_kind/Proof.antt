@@ -1,3 +1,4 @@
+-- Made from fills/show.py by tools/prove.py: change that, not this.
 use mathlib.Core.Path.{sym, _∙_}
 use borrow.Author.Needs.{needs}
 use borrow.Author.Tests.{eq-eqb, ne-eqb}

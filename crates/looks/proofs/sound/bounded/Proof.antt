@@ -1,3 +1,4 @@
+-- Made from fills/sound.py by tools/prove.py: change that, not this.
 use borrow.Author.Needs.{needs}
 use borrow.Author.Tests.{le-leb, le-ltb, lt-leb, lt-ltb}
 use Rattle.looks.specs.Sound.{boundedBy}

@@ -1,3 +1,4 @@
+-- Made from fills/sound.py by tools/prove.py: change that, not this.
 use mathlib.Core.Path.{ap}
 use mathlib.Core.Bool.{not}
 use borrow.Author.Needs.{needs}

@@ -1,3 +1,4 @@
+-- Made from fills/quick.py by tools/prove.py: change that, not this.
 use borrow.Author.Needs.{needs}
 use Rattle.looks.proofs.state.nums_of.Statement.{statement}
 use Rattle.looks.proofs.state.nums_of.Tie as tie

@@ -1,3 +1,4 @@
+-- Made from fills/tell.py by tools/prove.py: change that, not this.
 use borrow.Author.Tests.{eq-eqb, ne-eqb}
 use Rattle.looks.proofs.tell.is_kind.Statement.{statement}
 use Rattle.looks.proofs.tell.is_kind.Tie as tie

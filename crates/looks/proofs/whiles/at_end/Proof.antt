@@ -1,3 +1,4 @@
+-- Made from fills/whiles.py by tools/prove.py: change that, not this.
 use borrow.Author.Tests.{eq-eqb, ne-eqb}
 use Rattle.looks.proofs.whiles.at_end.Statement.{statement}
 use Rattle.looks.proofs.whiles.at_end.Tie as tie

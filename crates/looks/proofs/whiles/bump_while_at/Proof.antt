@@ -1,3 +1,4 @@
+-- Made from fills/whiles.py by tools/prove.py: change that, not this.
 use mathlib.Core.Path.{sym, ap, _∙_}
 use mathlib.Core.Bool.{not}
 use native.Mathlib.Omega.{arith}

@@ -1,3 +1,4 @@
+-- Made from fills/whiles.py by tools/prove.py: change that, not this.
 use borrow.Author.Tests.{le-ltb, lt-ltb}
 use Rattle.looks.proofs.whiles.is_some.Statement.{statement}
 use Rattle.looks.proofs.whiles.is_some.Tie as tie

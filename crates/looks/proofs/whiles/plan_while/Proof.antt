@@ -1,3 +1,4 @@
+-- Made from fills/whiles.py by tools/prove.py: change that, not this.
 -- The invariant: the numbers are those of a real state, and its plan is the plan from the start. Assumes nothing.
 use mathlib.Core.Path.{ap, _∙_}
 use mathlib.Core.List.{[]}

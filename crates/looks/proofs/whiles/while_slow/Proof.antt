@@ -1,3 +1,4 @@
+-- Made from fills/whiles.py by tools/prove.py: change that, not this.
 use Prim.Native.Nat.{ℕ}
 use mathlib.Core.Path.{_≡_, sym, ap, _∙_, subst}
 use native.Mathlib.Omega.{arith}

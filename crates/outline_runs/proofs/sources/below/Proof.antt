@@ -1,3 +1,4 @@
+-- Made from fills/main.py by tools/prove.py: change that, not this.
 use borrow.Author.Needs.{needs}
 use native.Mathlib.Nat.{mod-lt}
 use Rattle.outline_runs.proofs.sources.below.Statement.{statement}

@@ -1,30 +1,24 @@
--- The characters end within the lent bytes, which keep their length. Assumes nothing.
-use Prim.Native.Nat.{_≤_}
-use mathlib.Core.Path.{_≡_, refl, _∙_}
-use native.Mathlib.Omega.{arith}
+-- Made from fills/main.py by tools/prove.py: change that, not this.
+-- The characters left fall. Assumes nothing.
 use borrow.Author.Needs.{needs}
-use lib.ListN.{length}
 use Rattle.text.specs.Utf8.{from}
 use Rattle.outline_runs.proofs.sources.sprinkle.Statement.{statement}
 use Rattle.outline_runs.proofs.sources.sprinkle.Tie as tie
 
 abbrev Inv-loop : tie.InvT-loop
-Inv-loop s₀ begun seed end₀ from₀ left₀ s end from left = (end ≤ length s) × (length s ≡ length s₀)
+Inv-loop s₀ begun seed end₀ from₀ left₀ s end from left = Unit {0}
 
 abbrev μ-loop : tie.MeasureT-loop
 μ-loop s₀ begun seed end₀ from₀ left₀ s end from left = left
 
 loop-holds : tie.Need-loop-holds Inv-loop μ-loop
-loop-holds c = (c .before .pre, refl)
-
-same-length : tie.Need-same-length Inv-loop μ-loop
-same-length c = c .before .before .loop .inv .1
+loop-holds c = search needs
 
 returns : tie.Need-returns Inv-loop μ-loop
 returns c = search needs
 
-array-read-byte : tie.Need-array-read-byte Inv-loop μ-loop
-array-read-byte c = search needs
+array-read-put : tie.Need-array-read-put Inv-loop μ-loop
+array-read-put c = search needs
 
 put-requires : tie.Need-put-requires Inv-loop μ-loop
 put-requires c κs = search needs
@@ -36,10 +30,7 @@ loop-less : tie.Need-loop-less Inv-loop μ-loop
 loop-less c = search needs
 
 loop-again : tie.Need-loop-again Inv-loop μ-loop
-loop-again c = (omega (arith, c .before .before .put .ensures .1, c .before .before .put .kept .0), c .before .before .put .kept .0 ∙ c .before .before .before .before .before .before .loop .inv .1)
-
-same-length-2 : tie.Need-same-length-2 Inv-loop μ-loop
-same-length-2 c = c .before .loop .inv .1
+loop-again c = search needs
 
 returns-2 : tie.Need-returns-2 Inv-loop μ-loop
 returns-2 c = search needs
@@ -51,12 +42,10 @@ sprinkle-spec =
     Inv-loop
     μ-loop
     loop-holds
-    same-length
     returns
-    array-read-byte
+    array-read-put
     put-requires
     sub-left
     loop-less
     loop-again
-    same-length-2
     returns-2)

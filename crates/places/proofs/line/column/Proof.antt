@@ -1,3 +1,4 @@
+-- Made from fills/places.py by tools/prove.py: change that, not this.
 -- The scalars since the line began. Assumes nothing.
 use Prim.Native.Nat.{ℕ, _+_}
 use mathlib.Core.Path.{_≡_, ap, _∙_}

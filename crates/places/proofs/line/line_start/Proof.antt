@@ -1,3 +1,4 @@
+-- Made from fills/places.py by tools/prove.py: change that, not this.
 -- Every place back to the last LF has the same line. Assumes nothing.
 use mathlib.Core.Path.{_≡_, sym, _∙_}
 use native.Mathlib.Omega.{arith}

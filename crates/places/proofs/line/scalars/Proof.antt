@@ -1,3 +1,4 @@
+-- Made from fills/places.py by tools/prove.py: change that, not this.
 -- What is counted before the place, less what was before the first. Assumes nothing.
 use Prim.Native.Nat.{_+_, _-_, _≤_}
 use mathlib.Core.Path.{_≡_, ap}

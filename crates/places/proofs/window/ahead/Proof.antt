@@ -1,3 +1,4 @@
+-- Made from fills/places.py by tools/prove.py: change that, not this.
 -- The scalars left fall. Assumes nothing.
 use Prim.Native.Nat.{_-_}
 use borrow.Author.Needs.{needs}

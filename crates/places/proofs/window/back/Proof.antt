@@ -1,3 +1,4 @@
+-- Made from fills/places.py by tools/prove.py: change that, not this.
 -- The place falls. Assumes nothing.
 use borrow.Author.Needs.{needs}
 use Rattle.places.proofs.window.back.Statement.{statement}

@@ -1,3 +1,4 @@
+-- Made from fills/comments.py by tools/prove.py: change that, not this.
 use Prim.Native.Nat.{_-_}
 use mathlib.Core.Path.{refl, sym, ap, _∙_}
 use native.Mathlib.Omega.{arith}

@@ -1,22 +1,19 @@
+-- Made from fills/main.py by tools/prove.py: change that, not this.
 -- The words left fall. Assumes nothing.
 use Prim.Native.Nat.{_-_, _≤_}
-use mathlib.Core.Path.{_≡_}
 use borrow.Author.Needs.{needs}
 use lib.ListN.{length}
 use Rattle.replay_look.proofs.lines.put_tokens.Statement.{statement}
 use Rattle.replay_look.proofs.lines.put_tokens.Tie as tie
 
 abbrev Inv-loop : tie.InvT-loop
-Inv-loop out₀ waiting words count n₀ i₀ out n i = (i ≤ length words) × (length out ≡ length out₀)
+Inv-loop words count out₀ i₀ out i = i ≤ length words
 
 abbrev μ-loop : tie.MeasureT-loop
-μ-loop out₀ waiting words count n₀ i₀ out n i = length words - i
+μ-loop words count out₀ i₀ out i = length words - i
 
 loop-holds : tie.Need-loop-holds Inv-loop μ-loop
 loop-holds c = search needs
-
-same-length : tie.Need-same-length Inv-loop μ-loop
-same-length c = search needs
 
 returns : tie.Need-returns Inv-loop μ-loop
 returns c = search needs
@@ -39,9 +36,6 @@ loop-less c = search needs
 loop-again : tie.Need-loop-again Inv-loop μ-loop
 loop-again c = search needs
 
-same-length-2 : tie.Need-same-length-2 Inv-loop μ-loop
-same-length-2 c = search needs
-
 returns-2 : tie.Need-returns-2 Inv-loop μ-loop
 returns-2 c = search needs
 
@@ -52,7 +46,6 @@ put-tokens-spec =
     Inv-loop
     μ-loop
     loop-holds
-    same-length
     returns
     mul-put-word
     shared-slice-read-put-word
@@ -60,5 +53,4 @@ put-tokens-spec =
     add-i
     loop-less
     loop-again
-    same-length-2
     returns-2)

@@ -1,15 +1,14 @@
+-- Made from fills/report.py by tools/prove.py: change that, not this.
 -- The blanks left fall. Assumes nothing.
-use mathlib.Core.Path.{_≡_}
 use borrow.Author.Needs.{needs}
-use lib.ListN.{length}
 use Rattle.report.proofs.drawing.put_blanks.Statement.{statement}
 use Rattle.report.proofs.drawing.put_blanks.Tie as tie
 
 abbrev Inv-loop : tie.InvT-loop
-Inv-loop out₀ waiting count waiting₀ left₀ out waiting' left = length out ≡ length out₀
+Inv-loop count out₀ left₀ out left = Unit {0}
 
 abbrev μ-loop : tie.MeasureT-loop
-μ-loop out₀ waiting count waiting₀ left₀ out waiting' left = left
+μ-loop count out₀ left₀ out left = left
 
 loop-holds : tie.Need-loop-holds Inv-loop μ-loop
 loop-holds c = search needs
@@ -26,22 +25,10 @@ loop-less c = search needs
 loop-again : tie.Need-loop-again Inv-loop μ-loop
 loop-again c = search needs
 
-same-length : tie.Need-same-length Inv-loop μ-loop
-same-length c = search needs
-
 returns : tie.Need-returns Inv-loop μ-loop
 returns c = search needs
 
 pub put-blanks-spec : {M : Type 1} → statement M
 put-blanks-spec =
     tie.close
-    (tie.spec
-    Inv-loop
-    μ-loop
-    loop-holds
-    put-requires
-    sub-left
-    loop-less
-    loop-again
-    same-length
-    returns)
+    (tie.spec Inv-loop μ-loop loop-holds put-requires sub-left loop-less loop-again returns)

@@ -1,6 +1,6 @@
+-- Made from fills/report.py by tools/prove.py: change that, not this.
 -- A scalar has a byte or more. Assumes nothing.
 use Prim.Native.Nat.{_-_}
-use mathlib.Core.Path.{_≡_}
 use native.Mathlib.Omega.{arith}
 use borrow.Author.Needs.{needs}
 use lib.ListN.{length}
@@ -8,10 +8,10 @@ use Rattle.report.proofs.drawing.put_under.Statement.{statement}
 use Rattle.report.proofs.drawing.put_under.Tie as tie
 
 abbrev Inv-loop : tie.InvT-loop
-Inv-loop out₀ waiting bytes sign waiting₀ i₀ out waiting' i = length out ≡ length out₀
+Inv-loop bytes sign out₀ i₀ out i = Unit {0}
 
 abbrev μ-loop : tie.MeasureT-loop
-μ-loop out₀ waiting bytes sign waiting₀ i₀ out waiting' i = length bytes - i
+μ-loop bytes sign out₀ i₀ out i = length bytes - i
 
 loop-holds : tie.Need-loop-holds Inv-loop μ-loop
 loop-holds c = search needs
@@ -34,9 +34,6 @@ loop-less c = omega (arith, c .after .ensures (omega arith))
 loop-again : tie.Need-loop-again Inv-loop μ-loop
 loop-again c = search needs
 
-same-length : tie.Need-same-length Inv-loop μ-loop
-same-length c = search needs
-
 returns : tie.Need-returns Inv-loop μ-loop
 returns c = search needs
 
@@ -53,5 +50,4 @@ put-under-spec =
     after-requires
     loop-less
     loop-again
-    same-length
     returns)

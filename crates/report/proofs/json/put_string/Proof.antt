@@ -1,16 +1,16 @@
+-- Made from fills/report.py by tools/prove.py: change that, not this.
 -- The bytes left fall. Assumes nothing.
 use Prim.Native.Nat.{_-_}
-use mathlib.Core.Path.{_≡_}
 use borrow.Author.Needs.{needs}
 use lib.ListN.{length}
 use Rattle.report.proofs.json.put_string.Statement.{statement}
 use Rattle.report.proofs.json.put_string.Tie as tie
 
 abbrev Inv-loop : tie.InvT-loop
-Inv-loop out₀ waiting bytes waiting₀ i₀ out waiting' i = length out ≡ length out₀
+Inv-loop bytes out₀ i₀ out i = Unit {0}
 
 abbrev μ-loop : tie.MeasureT-loop
-μ-loop out₀ waiting bytes waiting₀ i₀ out waiting' i = length bytes - i
+μ-loop bytes out₀ i₀ out i = length bytes - i
 
 loop-holds : tie.Need-loop-holds Inv-loop μ-loop
 loop-holds c = search needs
@@ -30,9 +30,6 @@ loop-less c = search needs
 loop-again : tie.Need-loop-again Inv-loop μ-loop
 loop-again c = search needs
 
-same-length : tie.Need-same-length Inv-loop μ-loop
-same-length c = search needs
-
 returns : tie.Need-returns Inv-loop μ-loop
 returns c = search needs
 
@@ -48,5 +45,4 @@ put-string-spec =
     add-i
     loop-less
     loop-again
-    same-length
     returns)

@@ -1,3 +1,4 @@
+-- Made from fills/report.py by tools/prove.py: change that, not this.
 -- The end falls. Assumes nothing.
 use borrow.Author.Needs.{needs}
 use Rattle.text.specs.Utf8.{from}

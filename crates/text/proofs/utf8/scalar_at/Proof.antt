@@ -1,3 +1,4 @@
+-- Made from fills/utf8.py by tools/prove.py: change that, not this.
 use mathlib.Core.Path.{_∙_}
 use native.Mathlib.Omega.{arith}
 use borrow.Author.Needs.{needs}

@@ -1,3 +1,4 @@
+-- Made from fills/utf8.py by tools/prove.py: change that, not this.
 use borrow.Author.Tests.{le-leb, lt-leb}
 use Rattle.text.proofs.utf8.step_of.Statement.{statement}
 use Rattle.text.proofs.utf8.step_of.Tie as tie

@@ -1,7 +1,8 @@
+-- Made from fills/utf8.py by tools/prove.py: change that, not this.
 use mathlib.Core.Path.{_∙_}
 use borrow.Author.Needs.{needs}
 use borrow.Author.Tests.{le-leb, lt-leb}
-use Rattle.text.specs.Utf8.{wideOf}
+use Rattle.text.specs.Wide.{wideOf}
 use Rattle.text.proofs.utf8.wide.Statement.{statement}
 use Rattle.text.proofs.utf8.wide.Tie as tie
 

@@ -1,3 +1,4 @@
+-- Made from fills/body.py by tools/prove.py: change that, not this.
 use mathlib.Core.Path.{ap}
 use Rattle.encoding.specs.declared.Encoded.{Encoded}
 use Rattle.unescape.proofs.body.item_len.Statement.{statement}

@@ -1,3 +1,4 @@
+-- Made from fills/body.py by tools/prove.py: change that, not this.
 use native.Mathlib.Omega.{arith}
 use lib.ListN.{length-set}
 use Rattle.unescape.proofs.Stores.{putting-first, putting-last, putting-next, putting-one}

@@ -1,3 +1,4 @@
+-- Made from fills/long.py by tools/prove.py: change that, not this.
 use native.Mathlib.Omega.{arith}
 use borrow.Author.Needs.{needs}
 use Rattle.unescape.proofs.Longs.{is-digit, is-high, is-low}

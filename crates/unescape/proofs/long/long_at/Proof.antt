@@ -1,3 +1,4 @@
+-- Made from fills/long.py by tools/prove.py: change that, not this.
 use mathlib.Core.Path.{sym, _∙_}
 use borrow.Author.Needs.{needs}
 use Rattle.unescape.proofs.Longs.{byte-hex, char-hex, char-unicode, nothing}

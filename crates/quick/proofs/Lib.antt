@@ -1,0 +1,5 @@
+pub mod OperatorRows
+pub mod OperatorSure
+pub mod Tests
+pub mod Passes
+pub mod Sure

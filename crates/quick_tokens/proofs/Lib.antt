@@ -1,3 +1,0 @@
-pub mod Passes
-pub mod Tests
-pub mod Sure

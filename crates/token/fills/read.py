@@ -1,0 +1,1 @@
+fill('read/refusal_in', {'returns-2': '@point .ensures ∙ sym (ap refusalIn (@answer2 .given .1))'})

@@ -1,5 +1,0 @@
-pub mod Steps
-pub mod Cover
-pub mod Starred
-pub mod Closings
-pub mod Switch
