@@ -1,6 +1,6 @@
 -- Made from tools/spread.txt by tools/spread.py: change that, not this.
 -- The state where it stands: its cell taken apart into its fields' and put together again, and a field's array as what can be lent.
--- An array's own row has its list as it is, a field's by `map (λ v. v)`: hence `array-is`, `array-si`. Written by tools/spread.py.
+-- An array's own row has its list as it is, a field's by `map (λ v. v)`: hence `array-is`, `array-si`.
 use mathlib.Core.Path.{_≡_, refl, sym, ap, subst}
 use Prim.Native.Nat.{ℕ, _+_}
 use mathlib.Core.List.{[], _∷_, List, map}

@@ -1,6 +1,6 @@
 -- Made from tools/pass.txt by tools/pass.py: change that, not this.
 -- A call for C, `f(state, tested, n, list, answer) { let looked = g(state, tested, n, list); tell_looked(looked, answer) }`: it meets its contract at F if g, whose key is k, does, and if tell_looked, whose key is k′, tells an answer's number and words.
--- The lent state is handed on as it is: no borrow is opened. Written by tools/pass.py.
+-- The lent state is handed on as it is: no borrow is opened.
 use mathlib.Core.Path.{_≡_, refl, ap, _∙_}
 use Prim.Native.Nat.{ℕ}
 use mathlib.Core.List.{[], _∷_, List}
