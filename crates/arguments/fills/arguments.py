@@ -1,5 +1,5 @@
 def sameBytes(n, of, word):
-    return f'(sym (same-by {of} {word} (@sameBytes{n} .result) (@sameBytes{n} .ensures)))'
+    return f'(sym (same-by {of} {word} (@same{n} .result) (@same{n} .ensures)))'
 
 
 M = {'o': '(@Start .args .option .now)', 'v': '(@Start .args .value .now)',

@@ -6,10 +6,10 @@ fill('is_shebang', {
     'returns-2': 'bang-other $s$ $v$ $n$ $step$ (@if1 .taken)',
     'returns-3': 'bang-cut $s$ $v$ $n$ $step$ (@if1 .left) (step-none $s$ $n$ (sym (@scalar-at2 .ensures) ∙ @enum-told2 .given .1))',
     'returns-4': 'bang-second $s$ $v$ $n$ $step$ (@if1 .left) _ _ (step-one $s$ $n$ (@second .given .0 .0) (@second .given .0 .1 .0) (sym (@scalar-at2 .ensures) ∙ @second .given .1))'}, macros=S)
-C = {'told': '(@Start .args .end) (@Start .args .r) (@r .given .0 .0) (@r .given .1)'}
+C = {'told': '(@Start .args .end) (@Start .args .r) (@r2 .given .0 .0) (@r2 .given .1)'}
 fill('close_span', {
-    'returns': 'close-got (@Start .args .end) (@Start .args .r) (@enum-told .given .0 .0) (@enum-told .given .1)',
-    'returns-2': 'sym (@r .given .1) ∙ close-other $told$ (@if1 .taken)',
+    'returns': 'sym (@r2 .given .1) ∙ close-other $told$ (@if1 .taken)',
+    'returns-2': 'sym (@r .given .1) ∙ close-got (@Start .args .end) (@Start .args .r) (@r .given .0 .0) (@r .given .1)',
     'returns-3': '@refused .ensures ∙ close-empty $told$ (@if1 .left)'}, macros=C)
 fill('next_past_start', {'returns': ('pastStartAt', '@close-span .ensures ∙ ap (closeSpan (length $s$)) (@read-token .ensures)')}, macros=S)
 fill('next', {

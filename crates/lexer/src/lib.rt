@@ -34,18 +34,20 @@ fn is_shebang(s: &[u8]) -> bool
 fn close_span(end: usize, r: Read) -> Read
     ensures { λ q. ⌜ q ≡ closeSpan end r ⌝ }
 {
-    let Read::Refused { refusal } = r else {
-        return r;
-    };
-    if refusal.number != EXPECTED_CHAR_CLOSE {
-        return r;
+    match r {
+        Read::Got { token } => Read::Got { token },
+        Read::Refused { refusal } => {
+            if refusal.number != EXPECTED_CHAR_CLOSE {
+                return Read::Refused { refusal };
+            }
+            token::refused(
+                EXPECTED_CHAR_CLOSE,
+                refusal.span.start,
+                end,
+                refusal.reached,
+            )
+        }
     }
-    token::refused(
-        EXPECTED_CHAR_CLOSE,
-        refusal.span.start,
-        end,
-        refusal.reached,
-    )
 }
 
 // For a place past 0, where no shebang is looked for; for a caller that has tested the source once. Total on every slice and position.

@@ -9,8 +9,8 @@ use Rattle.readers.specs.Readers.{lineOf, whiteOf}
 use Rattle.readers.specs.Rules.{rulesOf}
 use Rattle.text.proofs.Decode.{step-none, step-one}
 use Rattle.text.specs.Utf8.{rest}
-use Rattle.token.specs.declared.kind.Kind.the-variants.{Comment, Whitespace}
 use Rattle.token.specs.Reads.{gotOf}
+use Rattle.token.specs.declared.kind.Kind.the-variants.{Comment, Whitespace}
 use Rattle.choice.proofs.read_first.Statement.{statement}
 use Rattle.choice.proofs.read_first.Tie as tie
 

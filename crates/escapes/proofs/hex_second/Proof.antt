@@ -3,8 +3,8 @@ use mathlib.Core.Path.{sym, _∙_}
 use native.Mathlib.Omega.{arith}
 use borrow.Author.Needs.{needs}
 use borrow.Author.Tests.{not-false, not-true}
-use Rattle.text.proofs.Decode.{step-none, step-one}
 use Rattle.escapes.proofs.Escapes.{hex-small, second-end, second-no, second-yes}
+use Rattle.text.proofs.Decode.{step-none, step-one}
 use Rattle.escapes.proofs.hex_second.Statement.{statement}
 use Rattle.escapes.proofs.hex_second.Tie as tie
 

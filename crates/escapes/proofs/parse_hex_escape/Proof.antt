@@ -3,8 +3,8 @@ use mathlib.Core.Path.{sym, _∙_}
 use native.Mathlib.Omega.{arith}
 use borrow.Author.Needs.{needs}
 use borrow.Author.Tests.{not-false, not-true}
-use Rattle.text.proofs.Decode.{step-none, step-one}
 use Rattle.escapes.proofs.Escapes.{hex-end, hex-no, hex-small, hex-yes}
+use Rattle.text.proofs.Decode.{step-none, step-one}
 use Rattle.escapes.proofs.parse_hex_escape.Statement.{statement}
 use Rattle.escapes.proofs.parse_hex_escape.Tie as tie
 

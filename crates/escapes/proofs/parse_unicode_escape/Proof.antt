@@ -1,8 +1,8 @@
 -- Made from fills/escapes.py by tools/prove.py: change that, not this.
 use mathlib.Core.Path.{sym, _∙_}
 use borrow.Author.Needs.{needs}
-use Rattle.text.proofs.Decode.{step-none, step-one}
 use Rattle.escapes.proofs.Escapes.{unicode-end, unicode-no, unicode-open}
+use Rattle.text.proofs.Decode.{step-none, step-one}
 use Rattle.escapes.proofs.parse_unicode_escape.Statement.{statement}
 use Rattle.escapes.proofs.parse_unicode_escape.Tie as tie
 

@@ -5,10 +5,10 @@ use native.Mathlib.Omega.{arith}
 use borrow.Author.Needs.{needs}
 use lib.ListN.{length}
 use borrow.Author.Tests.{not-false, not-true}
-use Rattle.text.proofs.Decode.{step-none, step-one}
-use Rattle.text.specs.Utf8.{rest}
 use Rattle.escapes.proofs.Escapes.{skip-end, skip-more, skip-stop}
 use Rattle.escapes.specs.Escapes.{skipWhite}
+use Rattle.text.proofs.Decode.{step-none, step-one}
+use Rattle.text.specs.Utf8.{rest}
 use Rattle.escapes.proofs.skip_white.Statement.{statement}
 use Rattle.escapes.proofs.skip_white.Tie as tie
 

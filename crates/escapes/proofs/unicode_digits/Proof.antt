@@ -6,10 +6,10 @@ use native.Mathlib.Omega.{arith}
 use borrow.Author.Needs.{needs}
 use lib.ListN.{length}
 use borrow.Author.Tests.{not-false, not-true}
-use Rattle.text.proofs.Decode.{step-none, step-one}
-use Rattle.text.specs.Utf8.{rest}
 use Rattle.escapes.proofs.Escapes.{digits-close, digits-end, digits-more, digits-no}
 use Rattle.escapes.specs.Escapes.{digitsOf}
+use Rattle.text.proofs.Decode.{step-none, step-one}
+use Rattle.text.specs.Utf8.{rest}
 use Rattle.escapes.proofs.unicode_digits.Statement.{statement}
 use Rattle.escapes.proofs.unicode_digits.Tie as tie
 

@@ -8,8 +8,8 @@ use Rattle.laws.specs.Bools.{both}
 use Rattle.lexer.proofs.Sources.{later-token, next-shebang, no-shebang}
 use Rattle.lexer.specs.Next.{isShebang}
 use Rattle.text.specs.Utf8.{rest}
-use Rattle.token.specs.declared.kind.Kind.the-variants.{Shebang}
 use Rattle.token.specs.Reads.{gotOf}
+use Rattle.token.specs.declared.kind.Kind.the-variants.{Shebang}
 use Rattle.lexer.proofs.next.Statement.{statement}
 use Rattle.lexer.proofs.next.Tie as tie
 

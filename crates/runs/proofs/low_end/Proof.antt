@@ -5,7 +5,7 @@ use native.Mathlib.Omega.{arith}
 use borrow.Author.Needs.{needs}
 use lib.ListN.{drop, length}
 use Rattle.runs.proofs.Runs.{bare-cons, bare-more, high-here, low-few, low-here}
-use Rattle.runs.specs.Runs.{bareOf, asciiOf}
+use Rattle.runs.specs.Runs.{asciiOf, bareOf}
 use Rattle.runs.proofs.low_end.Statement.{statement}
 use Rattle.runs.proofs.low_end.Tie as tie
 

@@ -6,7 +6,7 @@ use borrow.Author.Needs.{needs}
 use lib.ListN.{length}
 use Rattle.readers.proofs.Scans.{Goes, goes-behind, goes-cut, goes-end, goes-on, scan-end}
 use Rattle.readers.proofs.Steps.{byte-close, byte-control, byte-more, byte-slash}
-use Rattle.readers.specs.Readers.{Bytes, body, byteAnswer, byteOf, byteStep, control, fresh, backslashed}
+use Rattle.readers.specs.Readers.{Bytes, backslashed, body, byteAnswer, byteOf, byteStep, control, fresh}
 use Rattle.readers.specs.Scan.{Stop, scan}
 use Rattle.text.proofs.Decode.{step-none, step-one}
 use Rattle.text.specs.Utf8.{first, rest, width}

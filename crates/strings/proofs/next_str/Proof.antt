@@ -11,8 +11,8 @@ use Rattle.readers.specs.Readers.{Quoted, slashed, strAnswer, strOf, strStep, t
 use Rattle.readers.specs.Scan.{Stop, scan}
 use Rattle.text.proofs.Decode.{step-none, step-one}
 use Rattle.text.specs.Utf8.{rest, width}
-use Rattle.token.specs.declared.kind.Kind.{Kind}
 use Rattle.token.specs.Reads.{gotOf, refusedOf}
+use Rattle.token.specs.declared.kind.Kind.{Kind}
 use Rattle.strings.proofs.next_str.Statement.{statement}
 use Rattle.strings.proofs.next_str.Tie as tie
 

@@ -9,8 +9,8 @@ use borrow.Author.Tests.{eq-eqb, ne-eqb}
 use Rattle.laws.proofs.Cases.{both-false}
 use Rattle.laws.specs.Bools.{both, pick}
 use Rattle.readers.specs.Readers.{wordOf}
-use Rattle.token.specs.declared.kind.Kind.the-variants.{Ident, Underscore}
 use Rattle.token.specs.Reads.{gotOf}
+use Rattle.token.specs.declared.kind.Kind.the-variants.{Ident, Underscore}
 use Rattle.words.proofs.next_ident.Statement.{statement}
 use Rattle.words.proofs.next_ident.Tie as tie
 

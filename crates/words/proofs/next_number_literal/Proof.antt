@@ -12,8 +12,8 @@ use Rattle.readers.specs.Readers.{Digits, fractional, integral, numberLitOf, nu
 use Rattle.readers.specs.Scan.{Stop, scan}
 use Rattle.text.proofs.Decode.{step-none, step-one}
 use Rattle.text.specs.Utf8.{rest, width}
-use Rattle.token.specs.declared.kind.Kind.the-variants.{Number}
 use Rattle.token.specs.Reads.{gotOf}
+use Rattle.token.specs.declared.kind.Kind.the-variants.{Number}
 use Rattle.words.proofs.next_number_literal.Statement.{statement}
 use Rattle.words.proofs.next_number_literal.Tie as tie
 

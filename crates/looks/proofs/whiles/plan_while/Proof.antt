@@ -4,8 +4,8 @@ use mathlib.Core.Path.{ap, _∙_}
 use mathlib.Core.List.{[]}
 use native.Mathlib.Omega.{arith}
 use borrow.Author.Needs.{needs}
-use Rattle.looks.specs.Front.{lessHeld}
 use Rattle.looks.proofs.Planning.{Turns, fewer, plannable-after, plannable-roomy, turn-few, turn-full, turn-more, turn-none, turn-other, turning-first}
+use Rattle.looks.specs.Front.{lessHeld}
 use Rattle.looks.specs.While.{Plannable, tokensLeft}
 use Rattle.looks.proofs.whiles.plan_while.Statement.{statement}
 use Rattle.looks.proofs.whiles.plan_while.Tie as tie

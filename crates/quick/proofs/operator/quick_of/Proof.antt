@@ -6,11 +6,11 @@ use lib.Dec.{eqb}
 use lib.ListN.{getD}
 use borrow.Author.Tests.{eq-eqb, ne-eqb}
 use Rattle.laws.proofs.Cases.{either-true, split-eq}
+use Rattle.numbers.specs.Kinds.{numberOf}
 use Rattle.operators.specs.Operators.{lookOne, lookThree, lookTwo, ones, threes, twos}
 use Rattle.quick.proofs.OperatorRows.{dot-one, either-longer, less-one, longer, more-one}
 use Rattle.quick.specs.Operators.{operatorBy, quickOf}
 use Rattle.token.specs.declared.kind.Kind.the-variants.{Amp, AmpAmp, AmpEq, Arrow, Bang, BangEq, Caret, CaretEq, Colon, ColonColon, Dash, DashEq, DotDot, DotDotEq, Eq, EqEq, GtGt, GtGtEq, LtLt, LtLtEq, Perc, PercEq, Pipe, PipeEq, PipePipe, Plus, PlusEq, Rocket, Star, StarEq}
-use Rattle.numbers.specs.Kinds.{numberOf}
 use Rattle.quick.proofs.operator.quick_of.Statement.{statement}
 use Rattle.quick.proofs.operator.quick_of.Tie as tie
 

@@ -3,9 +3,9 @@ use Prim.Native.Nat.{ℕ, _+_}
 use mathlib.Core.Path.{sym, ap}
 use borrow.Author.Needs.{needs}
 use lib.ListN.{List·getD-eq-default, getD}
+use Rattle.numbers.specs.Kinds.{numberOf}
 use Rattle.operators.specs.Operators.{lookOne, lookThree, lookTwo, ones, threes, twos}
 use Rattle.quick.specs.Operators.{operatorBy, quickAt, quickOf}
-use Rattle.numbers.specs.Kinds.{numberOf}
 use Rattle.quick.proofs.operator.quick_operator.Statement.{statement}
 use Rattle.quick.proofs.operator.quick_operator.Tie as tie
 
