@@ -1,10 +1,11 @@
 -- The user's three demands, sentence by sentence, in every reading; every proof is a citation. Whoever trusts the checker reads this and the definitions that it names. Assumes nothing.
 use Prim.Native.Nat.{ℕ, _+_, _*_, _≤_, _<_}
 use mathlib.Core.Path.{_≡_}
-use mathlib.Core.List.{List, [], map}
+use mathlib.Core.List.{List, [], _++_, map}
 use mathlib.Core.Bool.{Bool, true, false}
 use mathlib.Core.Logic.{inl, inr, _⊎_, ⊎-elim}
-use lib.ListN.{getD, length, take}
+use lib.Seq.{sets}
+use lib.ListN.{drop, getD, length, take}
 use Rattle.ahead.specs.View.{freshBy}
 use Rattle.demands.proofs.Left.{left-again, left-answer, left-inside, left-length, left-lists, left-past}
 use Rattle.demands.proofs.Listed.{listing-accepted}
@@ -50,7 +51,7 @@ use Rattle.token.specs.declared.kind.Kind.the-variants.{MultilineComment}
 use Rattle.token.specs.declared.read.Refusal.{Refusal}
 use Rattle.token.specs.declared.read.Token.{Token}
 use Rattle.unescape.proofs.Faults.{unescape-refusal}
-use Rattle.unescape.proofs.Unescaped.{Bare, as-it-stands, as-long, no-longer, one-item, refused-nothing, well-formed}
+use Rattle.unescape.proofs.Unescaped.{Bare, as-it-stands, as-long, no-longer, one-item, only-output, refused-nothing, well-formed}
 use Rattle.unescape.specs.Bodies.{unescapeOf, wrote}
 use Rattle.emitted.proofs.Refused.{refused-number, refused-same}
 use Rattle.emitted.specs.Sequence.{Call, IsFront, accepted, emitted, isEnd, turnOf, without}
@@ -185,6 +186,11 @@ bare-as-it-is form s room h b one l = as-it-stands form s room h b one l
 
 pub bare-alone : (form : Form) (s : List ℕ) (room n : ℕ) → unescapeOf form s room .answer ≡ IsWritten n → n ≡ length s → Bare form (decode s)
 bare-alone form s room n e h = as-long form s room n e h
+
+-- An accepted body changes only the bytes of its output.
+pub only-its-output : (form : Form) (s out : List ℕ) (n : ℕ) → unescapeOf form s (length out) .answer ≡ IsWritten n
+    → sets out 0 (unescapeOf form s (length out) .bytes) ≡ unescapeOf form s (length out) .bytes ++ drop n out
+only-its-output form s out n e = only-output form s out n e
 
 -- What the writer writes the reader gives back, and the other way round; what was listed can always be written.
 pub stored-comes-back : (l : List ℕ) (room room′ count : ℕ) → Below 4294967296 l → writeOf l room ≡ IsStored count → length l ≤ room′
