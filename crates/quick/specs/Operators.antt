@@ -8,6 +8,7 @@ use Rattle.numbers.specs.Kinds.{numberOf}
 use Rattle.operators.specs.Operators.{foundAt, lookOne, lookThree, lookTwo, ones, orElse, threes, twos}
 use Rattle.operators.specs.declared.Operator.{Operator}
 use Rattle.operators.specs.declared.Operator.the-variants.{Found, Nothing}
+use Rattle.text.specs.Characters.{hash, slash}
 
 -- four times the kind's number and the length in bytes; 0 for no operator
 abbrev pub packed : Operator → ℕ
@@ -20,7 +21,7 @@ operatorBy a b c = orElse (foundAt (lookThree threes a b c) 3) (orElse (foundAt 
 
 -- `#` and `/` are left out: a shebang and comments begin with them
 unfoldable pub quickOf : ℕ → ℕ → ℕ → ℕ
-quickOf a b c = pick (either (eqb a 35) (eqb a 47)) 0 (packed (operatorBy a b c))
+quickOf a b c = pick (either (eqb a hash) (eqb a slash)) 0 (packed (operatorBy a b c))
 
 -- .. at a place of a source; past its end stands 0, with which no operator begins or goes on
 unfoldable pub quickAt : List ℕ → ℕ → ℕ

@@ -8,6 +8,7 @@ use Rattle.laws.specs.Bools.{both, either, pick, within}
 use Rattle.quick.specs.Operators.{quickAt}
 use Rattle.quick.specs.declared.tokens.Quick.{Quick}
 use Rattle.readers.specs.Readers.{inNumber}
+use Rattle.text.specs.Characters.{doubleQuote, letterB, quote, underscore}
 
 -- tab, line feed, carriage return and space
 abbrev pub isBlank : ℕ → Bool
@@ -36,7 +37,7 @@ blankAt s p = let e = p + length (passing isBlank (drop p s)) in blankBy (getD s
 
 -- a word that begins with a, up to e, where c stands: it may go on with what is not ASCII, and a quote after `b` is no word's; a lone `_` is a kind of its own
 abbrev pub wordBy : ℕ → ℕ → ℕ → ℕ → Quick
-wordBy a p c e = pick (either (ltb 127 c) (both (eqb a 98) (either (eqb c 34) (eqb c 39)))) ask (record { number = pick (both (eqb a 95) (eqb e p)) 7 6; end = e })
+wordBy a p c e = pick (either (ltb 127 c) (both (eqb a letterB) (either (eqb c doubleQuote) (eqb c quote)))) ask (record { number = pick (both (eqb a underscore) (eqb e p)) 7 6; end = e })
 
 unfoldable pub wordAt : ℕ → List ℕ → ℕ → Quick
 wordAt a s p = let e = p + length (passing inNumber (drop p s)) in wordBy a p (getD s e 0) e

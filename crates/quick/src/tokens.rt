@@ -99,15 +99,15 @@ fn word(s: &[u8], a: u8, at: usize) -> Quick
     if 127 < c {
         return unsure();
     }
-    if a == 98 {
-        if c == 34 {
+    if a == b'b' {
+        if c == b'"' {
             return unsure();
         }
-        if c == 39 {
+        if c == b'\'' {
             return unsure();
         }
     }
-    if a == 95 {
+    if a == b'_' {
         if end == at {
             return Quick { number: 7, end };
         }
