@@ -27,7 +27,7 @@ extern "C" {
 #endif
 
 /* The version of this page; puffsatchel_version() is that of the archive. */
-#define PUFFSATCHEL_VERSION 5
+#define PUFFSATCHEL_VERSION 6
 
 /* Sizes, for memory that is always enough. */
 enum {

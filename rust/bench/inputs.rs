@@ -1,5 +1,5 @@
 //! The inputs: sources and bodies of an exact size, made by fixed rules from fixed seeds, inside document 01's domain of equality
-//! (so no numbers, which the Rust reads by another rule).
+//! (so no numbers, which the Rust reads by another rule, but in `thresholds`: these both read alike).
 
 use crate::chance::Chance;
 
@@ -24,6 +24,10 @@ const OPERATORS: [&str; 50] = [
     "!", "#", "$", "%", "&", "(", ")", "*", "+", ",", "-", ".", "/;", ":", ";", "<", "=", ">", "?",
     "@", "[", "]", "^", "{", "|", "}", "~", "!=", "%=", "&&", "&=", "*=", "+=", "-=", "->", "..",
     "/=", "::", "<<", "<=", "==", "=>", ">=", ">>", "^=", "|=", "||", "..=", "<<=", ">>=",
+];
+
+const NUMBERS: [&str; 12] = [
+    "0.35", "1e-3", "1.5e-2", "2_000", "65", "12.5", "4e+2", "0x1F", "300", "0.002", "2.5e-4", "7",
 ];
 
 const TEXT_ESCAPES: [&str; 7] = ["\\n", "\\t", "\\\"", "\\\\", "\\x41", "\\u{e9}", "\\0"];
@@ -95,6 +99,21 @@ pub(crate) fn typical(size: usize) -> String {
             7 => *out += &format!("    let {a} = `${{{b}}} at ${{{c}}}: {d}\\n`;"),
             8 => *out += &format!("    {a}.{b} += {c}::{d};"),
             _ => *out += &format!("        break '{};", a.to_lowercase()),
+        }
+        out.push('\n');
+    })
+}
+
+/// Rules by numbers, as people write them.
+pub(crate) fn thresholds(size: usize) -> String {
+    filled(size, '\n', |chance, out| {
+        let [a, b] = [(); 2].map(|()| chance.pick(&NAMES));
+        let [m, n] = [(); 2].map(|()| chance.pick(&NUMBERS));
+        match chance.below(4) {
+            0 => *out += &format!("const {a} = {m};"),
+            1 => *out += &format!("    if {a} >= {m} && {b} < {n} {{"),
+            2 => *out += &format!("    let {a} = {b} * {m} + {n};"),
+            _ => *out += &format!("    {a}({m}, {n});"),
         }
         out.push('\n');
     })

@@ -155,7 +155,7 @@ fn bodies_of(source: &str) -> Vec<Body> {
     tokens.into_iter().filter_map(body).collect()
 }
 
-fn sources(size: usize) -> [(&'static str, String); 6] {
+fn sources(size: usize) -> [(&'static str, String); 7] {
     [
         ("typical rules", inputs::typical(size)),
         ("mostly comments", inputs::comments(size)),
@@ -163,6 +163,7 @@ fn sources(size: usize) -> [(&'static str, String); 6] {
         ("operators", inputs::operators(size)),
         ("not ASCII", inputs::not_ascii(size)),
         ("starred comments", inputs::starred(size)),
+        ("thresholds", inputs::thresholds(size)),
     ]
 }
 
@@ -225,7 +226,7 @@ fn cases() -> Vec<Case> {
             let work = Work::Unescape(bodies);
             cases.push(Case::new(input, size, work));
         }
-        // To the lookahead a comment is a token, starred or not.
+        // To the lookahead a comment is a token, starred or not, and so is a number.
         cases.extend(looks(size, &sources[..5]));
     }
 

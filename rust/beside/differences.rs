@@ -1,16 +1,21 @@
-//! The inputs of docs/DIFFERENCES.md outside the domain of equality, with both answers: the Rust's and document 01's.
+//! The inputs of docs/DIFFERENCES.md outside the domain of equality, with both answers: the Rust's and ours.
 
 use crate::answers::{Difference, Listed, Refused};
 
 type Tokens = &'static [[u32; 3]];
 
 /// Input, what the Rust lists, what we list, and our refusal: number, start, end.
-const TABLE: [(&str, Tokens, Tokens, Option<(u32, usize, usize)>); 7] = [
+const TABLE: [(&str, Tokens, Tokens, Option<(u32, usize, usize)>); 12] = [
     ("0.", &[[8, 0, 2]], &[[8, 0, 1], [28, 1, 2]], None),
     ("0é", &[[8, 0, 3]], &[[8, 0, 1], [6, 1, 3]], None),
     ("1.;", &[[8, 0, 2], [31, 2, 3]], &[[8, 0, 1], [28, 1, 2], [31, 2, 3]], None),
     ("1e-", &[[8, 0, 3]], &[[8, 0, 2], [27, 2, 3]], None),
-    ("1e-3", &[[8, 0, 4]], &[[8, 0, 2], [27, 2, 3], [8, 3, 4]], None),
+    ("1e-3", &[[8, 0, 4]], &[[8, 0, 4]], None),
+    ("1E-3", &[[8, 0, 2], [27, 2, 3], [8, 3, 4]], &[[8, 0, 4]], None),
+    ("1e-3a", &[[8, 0, 5]], &[[8, 0, 4], [6, 4, 5]], None),
+    ("1ae-3", &[[8, 0, 5]], &[[8, 0, 3], [27, 3, 4], [8, 4, 5]], None),
+    ("0b1e-3", &[[8, 0, 6]], &[[8, 0, 4], [27, 4, 5], [8, 5, 6]], None),
+    ("1e.5", &[[8, 0, 2], [28, 2, 3], [8, 3, 4]], &[[8, 0, 4]], None),
     ("\u{250}", &[[6, 0, 2]], &[], Some((18, 0, 2))),
     ("a\u{301}", &[[6, 0, 3]], &[[6, 0, 1]], Some((18, 1, 3))),
 ];

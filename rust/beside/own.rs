@@ -1,4 +1,4 @@
-//! What document 01 alone says of a source outside the domain of equality: its numbers and its word letters, judged on
+//! What the documents alone say of a source outside the domain of equality: its numbers and its word letters, judged on
 //! our listing.
 
 use crate::answers::{Difference, Listed};
@@ -17,7 +17,7 @@ pub(crate) fn judge(source: &str, ours: &Listed) -> Result<(), Difference> {
 
         if kind == NUMBER && end != number_end(source.as_bytes(), start) {
             let wanted = format!("  8 {start} {}", number_end(source.as_bytes(), start));
-            return Err(Difference::new("a number, by document 01's rule", &wanted, &format!("  8 {start} {end}")));
+            return Err(Difference::new("a number, by document 02's rule", &wanted, &format!("  8 {start} {end}")));
         }
 
         if !may_be_wide(kind) && text.chars().any(|c| c > LAST_NARROW) {
@@ -49,16 +49,36 @@ fn unexpected(source: &str, place: usize, span: (usize, usize)) -> Result<(), Di
     Err(Difference::new("the span of refusal 18", &wanted, &format!("  {}..{}", span.0, span.1)))
 }
 
-/// A digit, the longest run of letters, digits and `_`, and once a `.` that a digit follows, with its run.
+/// Document 01's rule, a digit, the longest run of letters, digits and `_`, and once a `.` that a digit follows, with its run; and
+/// document 02's A2.
 fn number_end(bytes: &[u8], start: usize) -> usize {
-    let run = |from: usize| {
-        let taken = |byte: &&u8| byte.is_ascii_alphanumeric() || **byte == b'_';
-        from + bytes[from..].iter().take_while(taken).count()
-    };
-    let end = run(start);
+    let end = run(bytes, start, |byte| byte.is_ascii_alphanumeric());
+
+    if let Some(signed) = signed_end(bytes, start, start, end) {
+        return signed;
+    }
 
     match bytes[end..] {
-        [b'.', b'0'..=b'9', ..] => run(end + 1),
+        [b'.', b'0'..=b'9', ..] => {
+            let last = run(bytes, end + 1, |byte| byte.is_ascii_alphanumeric());
+            signed_end(bytes, start, end + 1, last).unwrap_or(last)
+        }
         _ => end,
     }
+}
+
+/// The end of an exponent's digits, where the run of the number at `start` from `from` to `to` takes a sign.
+fn signed_end(bytes: &[u8], start: usize, from: usize, to: usize) -> Option<usize> {
+    let based = matches!(bytes[start..], [b'0', b'x' | b'b' | b'o', ..]);
+    let plain = run(bytes, from, |byte| byte.is_ascii_digit()) + 1 == to && matches!(bytes[to - 1], b'e' | b'E');
+
+    match bytes[to..] {
+        [b'+' | b'-', b'0'..=b'9', ..] if plain && !based => Some(run(bytes, to + 1, |byte| byte.is_ascii_digit())),
+        _ => None,
+    }
+}
+
+/// Where the bytes from `from` on end that are `_` or pass the test.
+fn run(bytes: &[u8], from: usize, test: impl Fn(u8) -> bool) -> usize {
+    from + bytes[from..].iter().take_while(|&&byte| byte == b'_' || test(byte)).count()
 }

@@ -14,7 +14,8 @@ use Rattle.laws.specs.Tables.{inRanges}
 use Rattle.operators.specs.Operators.{findOne, findThree, findTwo, lookOne, lookThree, lookTwo, ones, operatorOf, threes, twos}
 use Rattle.operators.specs.declared.Operator.{Operator}
 use Rattle.operators.specs.declared.Operator.the-variants.{Found, Nothing}
-use Rattle.readers.specs.Readers.{byteOf, charOf, commentOf, lineOf, numberLitOf, startsWord, strOf, whiteOf, wordOf}
+use Rattle.readers.specs.Numbers.{numberLitOf}
+use Rattle.readers.specs.Readers.{byteOf, charOf, commentOf, lineOf, startsWord, strOf, whiteOf, wordOf}
 use Rattle.readers.specs.Rules.{Rules, rulesOf, rune, skipOf}
 use Rattle.readers.specs.declared.reading.Reading.{Reading}
 use Rattle.text.proofs.Decode.{Step}
@@ -64,7 +65,7 @@ module _ (g : Reading) (t : Deep) (a : ℕ) (cs : List ℕ) (p v : ℕ) where
     left-word h = rw (ne-eqb v 95 n, h, leftOf)
 
     module _ (w : isXidStart v ≡ false) where
-      pub left-number : isDigit v ≡ true → numberLitOf width a cs p ≡ leftOf (rulesOf g) t v a cs p
+      pub left-number : isDigit v ≡ true → numberLitOf width true v a cs p ≡ leftOf (rulesOf g) t v a cs p
       unfolding leftOf
       left-number h = rw (ne-eqb v 95 n, w, h, leftOf)
 
@@ -141,7 +142,7 @@ module _ (R : Rules) (t : Deep) (v a : ℕ) (cs : List ℕ) (p : ℕ) (P : Read 
   pub first-cases :
       P (whiteOf (R .stride) a cs p) → (nextIs 47 cs ≡ true → P (behindOne R (lineOf (R .stride) Comment a) cs p)) → (nextIs 42 cs ≡ true → P (behindOne R (commentOf (R .stride) (R .skip) a) cs p))
       → (nextIs 39 cs ≡ true → P (behindOne R (byteOf (R .stride) a) cs p)) → (nextIs 34 cs ≡ true → P (behindOne R (strOf (R .stride) true a) cs p)) → P (strOf (R .stride) false a cs p)
-      → ((k : Kind) (e : ℕ) → operatorOf (R .stride) v cs p ≡ Found k e → P (gotOf k a e)) → P (wordOf (R .stride) (R .continue) v a cs p) → P (numberLitOf (R .stride) a cs p) → P (charOf (R .stride) a cs p) → P (t a cs p)
+      → ((k : Kind) (e : ℕ) → operatorOf (R .stride) v cs p ≡ Found k e → P (gotOf k a e)) → P (wordOf (R .stride) (R .continue) v a cs p) → P (numberLitOf (R .stride) (R .exponents) v a cs p) → P (charOf (R .stride) a cs p) → P (t a cs p)
       → P (refusedOf 18 a p p) → P (firstOf R t v a cs p)
   unfolding firstOf otherOf leftOf
   first-cases white line comment byte bytes str op word number char deep none =

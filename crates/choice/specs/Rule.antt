@@ -9,7 +9,8 @@ use Rattle.laws.specs.Bools.{both, pick}
 use Rattle.operators.specs.Operators.{operatorOf}
 use Rattle.operators.specs.declared.Operator.{Operator}
 use Rattle.operators.specs.declared.Operator.the-variants.{Found, Nothing}
-use Rattle.readers.specs.Readers.{byteOf, charOf, commentOf, lineOf, numberLitOf, startsWord, strOf, whiteOf, wordOf}
+use Rattle.readers.specs.Numbers.{numberLitOf}
+use Rattle.readers.specs.Readers.{byteOf, charOf, commentOf, lineOf, startsWord, strOf, whiteOf, wordOf}
 use Rattle.readers.specs.Rules.{Rules}
 use Rattle.text.specs.Characters.{backtick, doubleQuote, letterB, quote, slash, star}
 use Rattle.token.specs.Reads.{gotOf, refusedOf}
@@ -37,7 +38,7 @@ Deep = ℕ → List ℕ → ℕ → Read
 unfoldable pub leftOf : Rules → Deep → ℕ → ℕ → List ℕ → ℕ → Read
 leftOf R t v a cs p =
     pick (startsWord R v) (wordOf (R .stride) (R .continue) v a cs p)
-    (pick (isDigit v) (numberLitOf (R .stride) a cs p)
+    (pick (isDigit v) (numberLitOf (R .stride) (R .exponents) v a cs p)
     (pick (eqb v quote) (charOf (R .stride) a cs p)
     (pick (eqb v backtick) (t a cs p)
     (refusedOf 18 a p p))))

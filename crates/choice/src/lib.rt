@@ -27,7 +27,7 @@ fn read_left(s: &[u8], value: u32, start: usize, at: usize) -> Read
         return words::next_ident(s, value, start, at);
     }
     if classes::is_ascii_digit(value) {
-        return words::next_number_literal(s, start, at);
+        return words::next_number_literal(s, value, start, at);
     }
     if value == QUOTE {
         return chars::next_char_or_label(s, start, at);

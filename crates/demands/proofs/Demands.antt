@@ -18,8 +18,11 @@ use Rattle.emitted.proofs.Views.{Sized}
 use Rattle.families.proofs.Cover.{covers}
 use Rattle.families.proofs.Deeper.{deeper-same}
 use Rattle.families.proofs.Depth.{depth-read, depth-refused, nested}
+use Rattle.families.proofs.Exponents.{exponentExamples, exponents-read}
+use Rattle.families.proofs.OldNumbers.{old-numbers}
 use Rattle.families.proofs.Sooner.{Sooner, first-ends-sooner}
 use Rattle.families.proofs.Starred.{Answer, allRead, answerBy, examples, reads, refuses, starred}
+use Rattle.families.specs.Exponents.{noneSigned, plainNumbers}
 use Rattle.families.specs.Refusals.{Numbered}
 use Rattle.families.specs.Switch.{switchSafe}
 use Rattle.families.specs.Tokens.{Covers, countOf, tokensAt}
@@ -168,6 +171,13 @@ three-words-each g s room = three-words g s room
 -- Document 01's starred examples, in rune's reading, as one table that the definitions compute.
 pub starred-examples : map (λ (e : List ℕ × Answer). answerBy rune (e .0)) examples ≡ map (λ (e : List ℕ × Answer). e .1) examples
 starred-examples = starred
+
+-- Document 02's A2: its examples in the same way; and where no `e` or `E` is followed by a sign, the tokens are those of document 01's own rule for numbers.
+pub exponent-examples : map (λ (e : List ℕ × Answer). answerBy rune (e .0)) exponentExamples ≡ map (λ (e : List ℕ × Answer). e .1) exponentExamples
+exponent-examples = exponents-read
+
+pub numbers-as-before : (g : Reading) (s : List ℕ) → noneSigned (rest s 0) ≡ true → tokensAt (rulesOf g) s 0 ≡ tokensAt (plainNumbers (rulesOf g)) s 0
+numbers-as-before g s h = old-numbers g s 0 h
 
 -- Unescaped text, template and char bodies are well-formed; a char or a byte gives one item; and never more bytes come out than the body has.
 module _ (form : Form) (s : List ℕ) (room n : ℕ) (e : unescapeOf form s room .answer ≡ IsWritten n) where

@@ -1,13 +1,12 @@
 -- What of a token lies inside it, and which tokens have an inside. Assumes nothing.
 use Prim.Native.Nat.{ℕ, _+_, _≤_, _<_}
 use mathlib.Core.Path.{_≡_, refl}
-use mathlib.Core.List.{List, _++_}
-use mathlib.Core.Bool.{true, false}
+use mathlib.Core.List.{List, [], _∷_, _++_}
+use mathlib.Core.Bool.{Bool, true, false}
 use native.Mathlib.Omega.{arith}
 use lib.Dec.{leb}
 use lib.ListN.{length}
 use borrow.Author.Tests.{le-leb, le-ltb, lt-leb, lt-ltb, ne-eqb}
-use Rattle.choice.specs.Rule.{nextIs}
 use Rattle.families.specs.Places.{placeAfter}
 use Rattle.families.specs.Shape.{Shape, commentShape, lineShape, markAfter, markBefore, shapeKind, stringShape, templateShape}
 use Rattle.laws.proofs.Cases.{both-false, never, split-eq}
@@ -16,6 +15,7 @@ use Rattle.marks.specs.Marks.{closeMark, openMark}
 use Rattle.marks.specs.Shut.{isShut}
 use Rattle.numbers.specs.Kinds.{hasInside, numberOf, plainKind}
 use Rattle.outline.specs.Outline.{insideToken}
+use Rattle.readers.specs.Numbers.{asksDigit}
 use Rattle.text.specs.Utf8.{width}
 use Rattle.token.specs.declared.kind.Kind.{Kind}
 use Rattle.token.specs.declared.read.Token.{Token}
@@ -107,12 +107,17 @@ opens-no-bang (stringShape true e) x = refl
 opens-no-bang (stringShape false e) x = refl
 opens-no-bang (templateShape c) x = refl
 
-pub opens-no-dot : (f : Shape) (x : List ℕ) → nextIs 46 (markBefore f ++ x) ≡ false
-opens-no-dot lineShape x = refl
-opens-no-dot (commentShape c) x = refl
-opens-no-dot (stringShape true e) x = refl
-opens-no-dot (stringShape false e) x = refl
-opens-no-dot (templateShape c) x = refl
+-- a digit is asked for after the first scalar
+abbrev pub firstAsks : List ℕ → Bool
+firstAsks [] = false
+firstAsks (v ∷ cs) = asksDigit v
+
+pub opens-no-asking : (f : Shape) (x : List ℕ) → firstAsks (markBefore f ++ x) ≡ false
+opens-no-asking lineShape x = refl
+opens-no-asking (commentShape c) x = refl
+opens-no-asking (stringShape true e) x = refl
+opens-no-asking (stringShape false e) x = refl
+opens-no-asking (templateShape c) x = refl
 
 -- a token without an inside has no escape mark
 pub plain-kind : (k : Kind) → hasInside k ≡ false → plainKind k ≡ k

@@ -2,12 +2,12 @@
 use Prim.Native.Nat.{ℕ, _+_, _≤_, _<_}
 use mathlib.Core.Path.{_≡_, refl, sym, ap, _∙_, subst}
 use mathlib.Core.List.{List, [], _∷_, _++_}
-use mathlib.Core.Bool.{Bool, false}
+use mathlib.Core.Bool.{Bool, true, false}
 use native.Mathlib.Omega.{arith}
 use lib.Dec.{ltb}
-use borrow.Author.Tests.{eq-eqb, le-ltb, lt-ltb, ltb-false, ltb-true}
+use borrow.Author.Tests.{le-ltb, lt-ltb, ltb-false, ltb-true}
 use Rattle.demands.proofs.Flat.{Const, even-append, even-const, flat-after, flat-append, flat-none}
-use Rattle.demands.proofs.Shown.{Shown, dot-plain, first-out, next-shown}
+use Rattle.demands.proofs.Shown.{Shown, asks-plain, first-out, next-shown}
 use Rattle.demands.specs.Plain.{inBytes, plainToken, plainTokens}
 use Rattle.demands.specs.Scalars.{Even, flat}
 use Rattle.emitted.proofs.Fronts.{front}
@@ -20,6 +20,7 @@ use Rattle.laws.proofs.Cases.{never, split}
 use Rattle.lexer.specs.Next.{nextOf}
 use Rattle.outline.specs.Outline.{insideAt, insideToken}
 use Rattle.readers.proofs.Lands.{lands-le}
+use Rattle.readers.specs.Numbers.{asksDigit}
 use Rattle.readers.specs.Rules.{Rules}
 use Rattle.text.proofs.Decode.{width-pos}
 use Rattle.text.specs.Utf8.{width}
@@ -100,8 +101,8 @@ module _ (R : Rules) (n : ℕ) where
     out (halt r) v x p e = refl
     out (more k ts) v x p e = let f = tokens-first v x p k ts e in first-in k ts p (f .past) ∙ first-out R n tick (v ∷ x) p k (f .read)
 
-    -- .. and so does the one after a `.`
-    second : (ts : Tokens) (v u : ℕ) (x : List ℕ) (p : ℕ) → v ≡ 46 → listed (v ∷ (u ∷ x)) p ≡ ts → insideAt ts (p + width v) ≡ false
+    -- .. and so does the one after a `.` or a sign
+    second : (ts : Tokens) (v u : ℕ) (x : List ℕ) (p : ℕ) → asksDigit v ≡ true → listed (v ∷ (u ∷ x)) p ≡ ts → insideAt ts (p + width v) ≡ false
     unfolding insideAt placeAfter
     second fin v u x p d e = refl
     second (halt r) v u x p d e = refl
@@ -109,7 +110,7 @@ module _ (R : Rules) (n : ℕ) where
         let f = tokens-first v (u ∷ x) p k ts e in
         let q = p + width v in
         split (ltb q (k .span .end))
-        (λ h. first-in k ts q (ltb-true q (k .span .end) h) ∙ dot-plain R n tick (v ∷ (u ∷ x)) p k (f .read) (eq-eqb v 46 d) q)
+        (λ h. first-in k ts q (ltb-true q (k .span .end) h) ∙ asks-plain R n tick (v ∷ (u ∷ x)) p k (f .read) d q)
         (λ h.
         let le = ltb-false q (k .span .end) h in
         let far = f .passed in

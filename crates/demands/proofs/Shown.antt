@@ -7,9 +7,8 @@ use mathlib.Core.Logic.{⊎-elim}
 use native.Mathlib.Omega.{arith}
 use lib.Dec.{eqb}
 use lib.ListN.{length}
-use Rattle.choice.specs.Rule.{nextIs}
 use Rattle.demands.proofs.Flat.{Const, even-append, even-const, flat-all, flat-append, flat-none, wide-x}
-use Rattle.demands.proofs.Marked.{closes-far, form-closes, form-inside, form-opens, in-before, in-behind, in-middle, in-plain, opens-far, opens-no-bang, opens-no-dot, opens-some, plain-kind}
+use Rattle.demands.proofs.Marked.{closes-far, firstAsks, form-closes, form-inside, form-opens, in-before, in-behind, in-middle, in-plain, opens-far, opens-no-asking, opens-no-bang, opens-some, plain-kind}
 use Rattle.demands.specs.Plain.{inBytes, plainToken}
 use Rattle.demands.specs.Scalars.{Even, flat}
 use Rattle.emitted.proofs.Fronts.{front}
@@ -196,15 +195,15 @@ module _ (R : Rules) (n : ℕ) where
     pub next-shown : Shown cs p k
     next-shown = ⊎-elim plain-shown frame-shown (subst (λ (r : Read). Shaped (inBytes R) cs p r) e (next-shaped (inBytes R) n cs p))
 
-    -- the first scalar is not inside, and neither is any after a `.` that the token starts with
+    -- the first scalar is not inside, and neither is any of a token that starts with a `.` or a sign
     pub first-out : insideToken k p ≡ false
     first-out =
         ⊎-elim (in-plain k p)
         (λ f. in-before k p (marked f))
         (subst (λ (r : Read). Shaped (inBytes R) cs p r) e (next-shaped (inBytes R) n cs p))
 
-    pub dot-plain : nextIs 46 cs ≡ true → (i : ℕ) → insideToken k i ≡ false
-    dot-plain d i =
+    pub asks-plain : firstAsks cs ≡ true → (i : ℕ) → insideToken k i ≡ false
+    asks-plain d i =
         ⊎-elim (in-plain k i)
-        (λ f. never (let z = sym d ∙ ap (nextIs 46) (f .whole) ∙ opens-no-dot (f .shape) (f .mid ++ (markAfter (f .shape) ++ f .back)) in cc))
+        (λ f. never (let z = sym d ∙ ap firstAsks (f .whole) ∙ opens-no-asking (f .shape) (f .mid ++ (markAfter (f .shape) ++ f .back)) in cc))
         (subst (λ (r : Read). Shaped (inBytes R) cs p r) e (next-shaped (inBytes R) n cs p))

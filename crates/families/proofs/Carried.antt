@@ -15,7 +15,8 @@ use Rattle.operators.specs.declared.Operator.{Operator}
 use Rattle.operators.specs.declared.Operator.the-variants.{Found, Nothing}
 use Rattle.readers.proofs.Lands.{Lands, lands-le, run-lands}
 use Rattle.readers.proofs.Scans.{by-act}
-use Rattle.readers.specs.Readers.{Bytes, Chars, Quoted, backslashed, body, broken, byteAnswer, byteOf, byteStep, charAnswer, charOf, charStep, closedBy, commentEnd, commentOf, commentStep, control, escape, fresh, inLine, integral, letters, lineOf, numberLitOf, numberStep, run, runStep, shut, skips, slashed, strAnswer, strOf, strStep, text, whiteOf, wordOf}
+use Rattle.readers.specs.Numbers.{firstPart, numberEnd, numberLitOf, numberStep, plainStep, unsigned}
+use Rattle.readers.specs.Readers.{Bytes, Chars, Quoted, backslashed, body, broken, byteAnswer, byteOf, byteStep, charAnswer, charOf, charStep, closedBy, commentEnd, commentOf, commentStep, control, escape, fresh, inLine, letters, lineOf, run, runStep, shut, skips, slashed, strAnswer, strOf, strStep, text, whiteOf, wordOf}
 use Rattle.readers.specs.Rules.{Rules}
 use Rattle.readers.specs.Scan.{Act, How, Stop, ended, full, scan, short, stopAt}
 use Rattle.token.specs.Reads.{gotOf}
@@ -84,9 +85,10 @@ module _ (R : Rules) (w g : ℕ → ℕ) where
     unfolding strOf
     str-moves b = reader-moves strStep (text false) (λ o. strAnswer b a (o .state) (o .last) (o .place) (o .how)) (λ o. strAnswer b (g a) (o .state) (o .last) (o .place) (o .how)) (λ o. str-carried b (o .state) (o .last) (o .place) (o .how))
 
-    pub number-moves : NextMoves (numberLitOf (R .stride) a) (numberLitOf w (g a))
-    unfolding numberLitOf
-    number-moves = reader-moves numberStep integral (λ o. gotOf Number a (o .place)) (λ o. gotOf Number (g a) (o .place)) (λ o. refl)
+    pub number-moves : (v : ℕ) (e : Bool) → NextMoves (numberLitOf (R .stride) e v a) (numberLitOf w e v (g a))
+    unfolding numberLitOf numberEnd
+    number-moves v true = reader-moves numberStep (unsigned true (firstPart v)) (λ o. gotOf Number a (o .place)) (λ o. gotOf Number (g a) (o .place)) (λ o. refl)
+    number-moves v false = reader-moves plainStep true (λ o. gotOf Number a (o .place)) (λ o. gotOf Number (g a) (o .place)) (λ o. refl)
 
     char-carried : (st : Chars) (l p : ℕ) → charAnswer (g a) st (g l) (g p) ≡ mapRead g (charAnswer a st l p)
     char-carried escape l p = refl

@@ -21,3 +21,5 @@ pub mod Depth
 pub mod Deeper
 pub mod Closings
 pub mod Switch
+pub mod Exponents
+pub mod OldNumbers

@@ -53,7 +53,7 @@ module _ (R : Rules) (sane : Sane R) where
       (λ i e. str-local R sane a false f x y p e h)
       (λ k e q z. rw (op-local R sane v f x y p (λ k′ e′ q′. let w : e′ ≡ e = cc in w ∙ z) h ∙ q))
       (λ q. op-local R sane v f x y p (λ k e z. never (cc)) h ∙ q)
-      (λ e. word-local R sane a v f x y p e h) (λ e. number-local R sane a f x y p e h) (λ e. char-local R sane a f x y p e h)
+      (λ e. word-local R sane a v f x y p e h) (λ e. number-local R sane a v (R .exponents) f x y p e h) (λ e. char-local R sane a f x y p e h)
       (λ i e. d a f x y p e h) (λ e. refl) r
 
   -- a place reached before the end of a front cuts the front

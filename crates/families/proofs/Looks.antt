@@ -5,20 +5,20 @@ use mathlib.Core.List.{List, [], _∷_, _++_}
 use mathlib.Core.Bool.{Bool, true, false}
 use native.Mathlib.Omega.{arith}
 use lib.Dec.{eqb}
-use borrow.Author.Tests.{eqb-true}
 use Rattle.classes.specs.Classes.{isWhiteSpace}
 use Rattle.families.proofs.Nearby.{digit-head, head-append}
 use Rattle.families.specs.Near.{Local, Near, SameFirst}
 use Rattle.families.specs.Places.{placeAfter}
 use Rattle.families.specs.Sane.{Sane}
 use Rattle.laws.proofs.Cases.{split}
-use Rattle.laws.specs.Bools.{both, pick}
+use Rattle.laws.specs.Bools.{both, either, pick}
 use Rattle.operators.proofs.Longest.{no-three}
 use Rattle.operators.specs.Operators.{findOne, findThree, findTwo, lookThree, lookTwo, operatorOf, threes, twos}
 use Rattle.operators.specs.declared.Operator.the-variants.{Found}
 use Rattle.readers.proofs.Lands.{byte-reached, char-reached, lands-le, scan-lands, str-reached}
 use Rattle.readers.proofs.Scans.{by-act}
-use Rattle.readers.specs.Readers.{afterStar, backslashed, body, broken, byteAnswer, byteOf, byteStep, charAnswer, charOf, charStep, closedBy, commentEnd, commentOf, commentStep, control, escape, fractional, fresh, inLine, integral, letters, lineOf, numberLitOf, numberStep, run, runStep, shut, skips, slashed, strAnswer, strOf, strStep, text, whiteOf, wordOf}
+use Rattle.readers.specs.Numbers.{asksDigit, firstPart, isSign, numberEnd, numberLitOf, numberStep, plainStep, signed, unsigned}
+use Rattle.readers.specs.Readers.{afterStar, backslashed, body, broken, byteAnswer, byteOf, byteStep, charAnswer, charOf, charStep, closedBy, commentEnd, commentOf, commentStep, control, escape, fresh, inLine, letters, lineOf, run, runStep, shut, skips, slashed, strAnswer, strOf, strStep, text, whiteOf, wordOf}
 use Rattle.readers.specs.Rules.{Rules}
 use Rattle.readers.specs.Scan.{Act, Stop, before, scan}
 use Rattle.token.specs.Reads.{gotOf, reachedOf}
@@ -28,9 +28,9 @@ use Rattle.token.specs.declared.kind.Known.{Known}
 use Rattle.token.specs.declared.kind.Known.the-variants.{Is, Unknown}
 use Rattle.token.specs.declared.read.Read.{Read}
 
--- a step looks at its scalar, and after a `.` at one more
+-- a step looks at its scalar, and where that asks for a digit at one more
 abbrev pub Looks : {S : Type 0} → (S → ℕ → List ℕ → Act S) → Type 0
-Looks {S} step = (s : S) (v : ℕ) (x y : List ℕ) → (v ≡ 46 → SameFirst x y) → step s v y ≡ step s v x
+Looks {S} step = (s : S) (v : ℕ) (x y : List ℕ) → (asksDigit v ≡ true → SameFirst x y) → step s v y ≡ step s v x
 
 run-looks : (f : ℕ → Bool) → Looks (runStep f)
 run-looks f s v x y h = refl
@@ -53,10 +53,14 @@ unfolding strStep
 str-looks (text e) v x y h = refl
 str-looks (slashed e) v x y h = refl
 
+plain-looks : Looks plainStep
+unfolding plainStep
+plain-looks w v x y h = split (eqb v 46) (λ e. rw (digit-head x y (h (ap (λ (b : Bool). either b (isSign v)) e)))) (λ e. rw e)
+
 number-looks : Looks numberStep
 unfolding numberStep
-number-looks fractional v x y h = refl
-number-looks integral v x y h = split (eqb v 46) (λ e. rw (digit-head x y (h (eqb-true v 46 e)))) (λ e. rw e)
+number-looks (unsigned w r) v x y h = split (asksDigit v) (λ e. rw (digit-head x y (h e))) (λ e. rw e)
+number-looks signed v x y h = refl
 
 char-looks : Looks charStep
 unfolding charStep
@@ -120,9 +124,10 @@ module _ (R : Rules) (sane : Sane R) where
     unfolding wordOf run
     word-local v = reader-local (runStep (R .continue)) (run-looks (R .continue)) tt (λ p o. gotOf (pick (both (eqb v 95) (eqb (o .place) p)) Underscore Ident) a (o .place)) (λ p o. refl)
 
-    pub number-local : Local R (numberLitOf (R .stride) a)
-    unfolding numberLitOf
-    number-local = reader-local numberStep number-looks integral (λ p o. gotOf Number a (o .place)) (λ p o. refl)
+    pub number-local : (v : ℕ) (e : Bool) → Local R (numberLitOf (R .stride) e v a)
+    unfolding numberLitOf numberEnd
+    number-local v true = reader-local numberStep number-looks (unsigned true (firstPart v)) (λ p o. gotOf Number a (o .place)) (λ p o. refl)
+    number-local v false = reader-local plainStep plain-looks true (λ p o. gotOf Number a (o .place)) (λ p o. refl)
 
     pub char-local : Local R (charOf (R .stride) a)
     unfolding charOf

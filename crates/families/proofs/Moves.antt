@@ -43,7 +43,7 @@ module _ (R : Rules) (w g : ℕ → ℕ) (sane : Sane R) (sane′ : Sane (withSt
       (λ i. behind-moves (byteOf (R .stride) a) (byteOf w (g a)) (byte-moves R w g a) cs p m)
       (λ i. behind-moves (strOf (R .stride) true a) (strOf w true (g a)) (str-moves R w g a true) cs p m)
       (λ i. str-moves R w g a false cs p m) (λ k e q. rw (op ∙ ap (mapFound R w g) q) refl) (λ q. op ∙ ap (mapFound R w g) q)
-      (word-moves R w g sane sane′ v a cs p m) (number-moves R w g a cs p m) (char-moves R w g a cs p m) (λ i. d a cs p m) refl
+      (word-moves R w g sane sane′ v a cs p m) (number-moves R w g a v (R .exponents) cs p m) (char-moves R w g a cs p m) (λ i. d a cs p m) refl
 
   -- where a template's body is sent: idle at both, or to a place and its image
   abbrev pub Aim : List ℕ → ℕ → ℕ → ℕ → Type 0

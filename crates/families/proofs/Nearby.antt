@@ -7,7 +7,7 @@ use Rattle.choice.specs.Rule.{nextIs}
 use Rattle.classes.specs.Digits.{isDigit}
 use Rattle.families.specs.Near.{Near, SameFirst}
 use Rattle.laws.proofs.Cases.{never}
-use Rattle.readers.specs.Readers.{beginsDigit}
+use Rattle.readers.specs.Numbers.{beginsDigit}
 
 pub near-head : (x y : List ℕ) → Near x y → SameFirst x y
 near-head [] [] h = tt

@@ -1,7 +1,7 @@
 -- Two runs side by side: the rule that reads a token, and a scalar of a template's body, decided alike. Assumes nothing.
-use Prim.Native.Nat.{ℕ}
-use mathlib.Core.Path.{_≡_, refl}
-use mathlib.Core.List.{List}
+use Prim.Native.Nat.{ℕ, _+_}
+use mathlib.Core.Path.{_≡_, refl, ap}
+use mathlib.Core.List.{List, [], _∷_}
 use mathlib.Core.Bool.{Bool, true, false}
 use lib.Dec.{eqb}
 use borrow.Author.Tests.{eqb-true}
@@ -10,15 +10,18 @@ use Rattle.classes.specs.Classes.{isWhiteSpace}
 use Rattle.classes.specs.Digits.{isDigit}
 use Rattle.laws.proofs.Cases.{both-inv, split}
 use Rattle.laws.specs.Bools.{both, pick}
+use Rattle.lexer.specs.Next.{shebangOf}
 use Rattle.operators.specs.Operators.{operatorOf}
 use Rattle.operators.specs.declared.Operator.{Operator}
 use Rattle.operators.specs.declared.Operator.the-variants.{Found, Nothing}
-use Rattle.readers.specs.Readers.{byteOf, charOf, commentOf, lineOf, numberLitOf, startsWord, strOf, whiteOf, wordOf}
+use Rattle.readers.specs.Numbers.{numberLitOf}
+use Rattle.readers.specs.Readers.{byteOf, charOf, commentOf, lineOf, startsWord, strOf, whiteOf, wordOf}
 use Rattle.readers.specs.Rules.{Rules}
+use Rattle.readers.specs.Scan.{Stride}
 use Rattle.templates.specs.Body.{down, goOn, templateTurn, up}
 use Rattle.token.specs.Reads.{gotOf, refusedOf}
 use Rattle.token.specs.declared.kind.Kind.{Kind}
-use Rattle.token.specs.declared.kind.Kind.the-variants.{Comment, Template}
+use Rattle.token.specs.declared.kind.Kind.the-variants.{Comment, Shebang, Template}
 use Rattle.token.specs.declared.read.Read.{Read}
 
 -- how a token is read that starts with the scalar v, twice: the cases that a relation of the two answers has to be shown for, each with its test
@@ -37,7 +40,7 @@ module _ (R R′ : Rules) (t t′ : Deep) (v a a′ : ℕ) (cs cs′ : List ℕ)
       → (eqb v 34 ≡ true → P (strOf (R .stride) false a cs p) (strOf (R′ .stride) false a′ cs′ p′))
       → ((k : Kind) (e : ℕ) → operatorOf (R .stride) v cs p ≡ Found k e → P (gotOf k a e) (otherOf R′ t′ v a′ cs′ p′))
       → (operatorOf (R .stride) v cs p ≡ Nothing → operatorOf (R′ .stride) v cs′ p′ ≡ Nothing)
-      → P (wordOf (R .stride) (R .continue) v a cs p) (wordOf (R′ .stride) (R′ .continue) v a′ cs′ p′) → P (numberLitOf (R .stride) a cs p) (numberLitOf (R′ .stride) a′ cs′ p′) → P (charOf (R .stride) a cs p) (charOf (R′ .stride) a′ cs′ p′)
+      → P (wordOf (R .stride) (R .continue) v a cs p) (wordOf (R′ .stride) (R′ .continue) v a′ cs′ p′) → P (numberLitOf (R .stride) (R .exponents) v a cs p) (numberLitOf (R′ .stride) (R′ .exponents) v a′ cs′ p′) → P (charOf (R .stride) a cs p) (charOf (R′ .stride) a′ cs′ p′)
       → (eqb v 96 ≡ true → P (t a cs p) (t′ a′ cs′ p′)) → P (refusedOf 18 a p p) (refusedOf 18 a′ p′ p′) → P (firstOf R t v a cs p) (firstOf R′ t′ v a′ cs′ p′)
   unfolding firstOf otherOf leftOf
   first-both alike start white line comment byte bytes str op none word number char deep other =
@@ -71,3 +74,14 @@ module _ (next next′ : List ℕ → ℕ → Read) (a a′ v : ℕ) (cs cs′ :
       (λ h. split (eqb v 123) (λ i. rw (h, i, templateTurn) (further (up l)))
       (λ i. split (eqb v 125) (λ j. rw (h, i, j, templateTurn) (further (down l)))
       (λ j. split (eqb v 92) (λ k. rw (h, i, j, k, templateTurn) inner) (λ k. rw (h, i, j, k, templateTurn) (further l)))))
+
+-- what asks nothing of the rules but how far a scalar moves the place
+module _ (R R′ : Rules) (e : R′ .stride ≡ R .stride) where
+  pub behind-same : (f : List ℕ → ℕ → Read) (cs : List ℕ) (p : ℕ) → behindOne R′ f cs p ≡ behindOne R f cs p
+  behind-same f [] p = refl
+  behind-same f (v ∷ cs) p = ap (λ (w : Stride). f cs (p + w v)) e
+
+  pub bang-same : (cs : List ℕ) (p : ℕ) → shebangOf R′ cs p ≡ shebangOf R cs p
+  bang-same [] p = ap (λ (w : Stride). lineOf w Shebang p [] p) e
+  bang-same (v ∷ []) p = ap (λ (w : Stride). lineOf w Shebang p [] (p + w v)) e
+  bang-same (v ∷ (u ∷ cs)) p = ap (λ (w : Stride). lineOf w Shebang p cs (p + w v + w u)) e

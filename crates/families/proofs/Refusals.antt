@@ -17,7 +17,8 @@ use Rattle.families.specs.Tokens.{Tokens, eachOf, tokensAt, tokensOf}
 use Rattle.laws.proofs.Cases.{split, split-eq, within-inv, within-yes}
 use Rattle.laws.specs.Bools.{both}
 use Rattle.lexer.specs.Next.{closeSpan, isShebang, nextAt, nextOf}
-use Rattle.readers.specs.Readers.{Bytes, Chars, Quoted, backslashed, body, broken, byteAnswer, byteOf, byteStep, charAnswer, charOf, charStep, commentOf, control, escape, fresh, letters, lineOf, numberLitOf, shut, slashed, strAnswer, strOf, strStep, text, whiteOf, wordOf}
+use Rattle.readers.specs.Numbers.{numberLitOf}
+use Rattle.readers.specs.Readers.{Bytes, Chars, Quoted, backslashed, body, broken, byteAnswer, byteOf, byteStep, charAnswer, charOf, charStep, commentOf, control, escape, fresh, letters, lineOf, shut, slashed, strAnswer, strOf, strStep, text, whiteOf, wordOf}
 use Rattle.readers.specs.Rules.{Rules, rulesOf}
 use Rattle.readers.specs.Scan.{How, ended, full, scan, short}
 use Rattle.readers.specs.declared.reading.Reading.{Reading}

@@ -18,7 +18,8 @@ use Rattle.numbers.specs.Kinds.{hasInside, numberOf}
 use Rattle.operators.proofs.Ends.{by-length}
 use Rattle.operators.specs.Operators.{findOne, findThree, findTwo, foundAt, lookOne, lookThree, lookTwo, ones, operatorOf, threes, twos}
 use Rattle.operators.specs.declared.Operator.the-variants.{Found}
-use Rattle.readers.specs.Readers.{Bytes, Chars, Quoted, backslashed, body, broken, byteAnswer, byteOf, byteStep, charAnswer, charOf, charStep, closedBy, commentEnd, commentOf, commentStep, control, escape, fresh, inLine, letters, lineOf, numberLitOf, run, runStep, shut, skips, slashed, strAnswer, strOf, strStep, text, whiteOf, wordOf}
+use Rattle.readers.specs.Numbers.{numberLitOf}
+use Rattle.readers.specs.Readers.{Bytes, Chars, Quoted, backslashed, body, broken, byteAnswer, byteOf, byteStep, charAnswer, charOf, charStep, closedBy, commentEnd, commentOf, commentStep, control, escape, fresh, inLine, letters, lineOf, run, runStep, shut, skips, slashed, strAnswer, strOf, strStep, text, whiteOf, wordOf}
 use Rattle.readers.specs.Rules.{Rules}
 use Rattle.readers.specs.Scan.{How, ended, full, scan, short}
 use Rattle.templates.proofs.Landing.{deepOf, with-deep}

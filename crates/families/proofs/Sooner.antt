@@ -8,11 +8,11 @@ use native.Mathlib.Omega.{arith}
 use lib.Dec.{ltb, eqb}
 use lib.ListN.{length}
 use Rattle.choice.specs.Rule.{Deep, behindOne, firstOf, otherOf, tokenWith}
-use Rattle.families.proofs.Pairs.{first-both, turn-both}
+use Rattle.families.proofs.Pairs.{bang-same, behind-same, first-both, turn-both}
 use Rattle.families.specs.Sane.{withSkip}
 use Rattle.laws.proofs.Cases.{never, split}
 use Rattle.laws.specs.Bools.{both}
-use Rattle.lexer.specs.Next.{closeSpan, isShebang, nextAt, nextOf, shebangOf}
+use Rattle.lexer.specs.Next.{closeSpan, isShebang, nextAt, nextOf}
 use Rattle.readers.proofs.Lands.{lands-le, scan-lands}
 use Rattle.readers.proofs.Scans.{by-act}
 use Rattle.readers.specs.Readers.{Closing, afterStar, byteOf, commentEnd, commentOf, commentStep, endedOf, lineOf, skips, strOf}
@@ -22,7 +22,7 @@ use Rattle.templates.proofs.Landing.{deepOf, with-deep}
 use Rattle.templates.specs.Body.{goOn, templateBody, templateOf, tokenOf}
 use Rattle.text.specs.Utf8.{rest}
 use Rattle.token.specs.Reads.{gotOf, spanOf}
-use Rattle.token.specs.declared.kind.Kind.the-variants.{Comment, MultilineComment, Shebang}
+use Rattle.token.specs.declared.kind.Kind.the-variants.{Comment, MultilineComment}
 use Rattle.token.specs.declared.read.Read.{Read}
 use Rattle.token.specs.declared.read.Read.the-variants.{Got, Refused}
 use Rattle.token.specs.declared.read.Token.{Token}
@@ -64,7 +64,7 @@ module _ (w : Stride) where
   goes-past : (a : Closing) (l v : ℕ) (cs : List ℕ) (p : ℕ) → p + w v ≤ scan commentStep w a l (v ∷ cs) p .place
   unfolding scan
   goes-past a l v cs p =
-      let R : Rules = record { stride = w; skip = 0; start = λ u. false; continue = λ u. false } in
+      let R : Rules = record { stride = w; skip = 0; start = λ u. false; continue = λ u. false; exponents = false } in
       by-act (commentStep a v cs)
       (λ a′ e. rw (e, scan) (lands-le R cs (p + w v) (scan commentStep w a′ p cs (p + w v) .place) (scan-lands R commentStep a′ p cs (p + w v))))
       (λ a′ e. absurd (never-before a a′ v cs e)) (λ a′ e. rw (e, scan) (omega arith))
@@ -149,16 +149,6 @@ module _ (R : Rules) where
   deep-plain zero a cs p = tt
   deep-plain (suc d) a cs p = body-plain (tokenOf R d) a 0 cs p 0
 
--- what does not ask how many are passed over
-module _ (R : Rules) (n : ℕ) where
-  pub behind-same : (f : List ℕ → ℕ → Read) (cs : List ℕ) (p : ℕ) → behindOne (withSkip R n) f cs p ≡ behindOne R f cs p
-  behind-same f [] p = refl
-  behind-same f (v ∷ cs) p = refl
-
-  pub bang-same : (cs : List ℕ) (p : ℕ) → shebangOf (withSkip R n) cs p ≡ shebangOf R cs p
-  bang-same [] p = refl
-  bang-same (v ∷ cs) p = behind-same (lineOf (R .stride) Shebang p) cs (p + R .stride v)
-
 module _ (R : Rules) (n : ℕ) (few : n ≤ R .skip) where
   abbrev Few : Rules
   Few = withSkip R n
@@ -177,8 +167,8 @@ module _ (R : Rules) (n : ℕ) (few : n ≤ R .skip) where
   first-beside : (t t′ : Deep) → ((a : ℕ) (cs : List ℕ) (p : ℕ) → NoComment (t a cs p) × NoComment (t′ a cs p)) → (v a : ℕ) (cs : List ℕ) (p : ℕ) → Beside (firstOf R t v a cs p) (firstOf Few t′ v a cs p)
   unfolding otherOf
   first-beside t t′ d v a cs p =
-      first-both R Few t t′ v a a cs cs p p Beside (λ c. refl) refl (inl refl) (λ h. inl (behind-same R n (lineOf (R .stride) Comment a) cs p)) (λ h. inr (inl (behind-twin a cs p)))
-      (λ h. inl (behind-same R n (byteOf (R .stride) a) cs p)) (λ h. inl (behind-same R n (strOf (R .stride) true a) cs p)) (λ h. inl refl) (λ k e q. rw q (inl refl)) (λ q. q)
+      first-both R Few t t′ v a a cs cs p p Beside (λ c. refl) refl (inl refl) (λ h. inl (behind-same R Few refl (lineOf (R .stride) Comment a) cs p)) (λ h. inr (inl (behind-twin a cs p)))
+      (λ h. inl (behind-same R Few refl (byteOf (R .stride) a) cs p)) (λ h. inl (behind-same R Few refl (strOf (R .stride) true a) cs p)) (λ h. inl refl) (λ k e q. rw q (inl refl)) (λ q. q)
       (inl refl) (inl refl) (inl refl) (λ h. inr (inr (d a cs p))) (inl refl)
 
   token-beside : (d : ℕ) (cs : List ℕ) (p : ℕ) → Beside (tokenOf R d cs p) (tokenOf Few d cs p)
@@ -201,7 +191,7 @@ module _ (R : Rules) (n : ℕ) (few : n ≤ R .skip) where
   next-beside : (m : ℕ) (cs : List ℕ) (p : ℕ) → Beside (nextOf R m cs p) (nextOf Few m cs p)
   unfolding nextOf
   next-beside m cs p =
-      split (both (eqb p 0) (isShebang cs)) (λ e. rw e (inl (bang-same R n cs p)))
+      split (both (eqb p 0) (isShebang cs)) (λ e. rw e (inl (bang-same R Few refl cs p)))
       (λ e. rw e (close-beside m (tokenOf R 64 cs p) (tokenOf Few 64 cs p) (token-beside 64 cs p)))
 
 -- an answer that is a comment too and starts where the token k does, and how the two ends stand to each other

@@ -10,7 +10,8 @@ use Rattle.families.proofs.Pairs.{turn-both}
 use Rattle.laws.proofs.Cases.{split}
 use Rattle.laws.specs.Bools.{both}
 use Rattle.lexer.specs.Next.{closeSpan, isShebang, nextOf}
-use Rattle.readers.specs.Readers.{Bytes, Chars, Quoted, backslashed, body, broken, byteAnswer, byteOf, byteStep, charAnswer, charOf, charStep, commentOf, control, escape, fresh, letters, lineOf, numberLitOf, shut, slashed, strAnswer, strOf, strStep, text, whiteOf, wordOf}
+use Rattle.readers.specs.Numbers.{numberLitOf}
+use Rattle.readers.specs.Readers.{Bytes, Chars, Quoted, backslashed, body, broken, byteAnswer, byteOf, byteStep, charAnswer, charOf, charStep, commentOf, control, escape, fresh, letters, lineOf, shut, slashed, strAnswer, strOf, strStep, text, whiteOf, wordOf}
 use Rattle.readers.specs.Rules.{Rules}
 use Rattle.readers.specs.Scan.{How, ended, full, scan, short}
 use Rattle.templates.proofs.Landing.{deepOf, with-deep}

@@ -11,8 +11,8 @@ use Rattle.choice.specs.Rule.{behindOne, firstOf, leftOf, nextIs, otherOf, toke
 use Rattle.classes.specs.Classes.{whiteSpace, xidContinue, xidStart}
 use Rattle.families.proofs.Cover.{by-read}
 use Rattle.families.proofs.Depth.{nested}
-use Rattle.families.proofs.Pairs.{first-both, turn-both}
-use Rattle.families.proofs.Sooner.{bang-same, behind-same, late-same, open-same}
+use Rattle.families.proofs.Pairs.{bang-same, behind-same, first-both, turn-both}
+use Rattle.families.proofs.Sooner.{late-same, open-same}
 use Rattle.families.proofs.Steps.{next-end, tokens-fin, tokens-halt, tokens-more, tokens-past-step, tokens-start}
 use Rattle.families.specs.Switch.{steady, switchSafe, switchable, textOf, unslashed, upTo}
 use Rattle.families.specs.Tokens.{Tokens, fin, halt, more, tokensAt, tokensOf}
@@ -160,8 +160,8 @@ first-same : (d v : ℕ) (cs : List ℕ) (p : ℕ) → let F = rulesOf firstClos
 unfolding otherOf
 first-same d v cs p =
     first-both F N (deepOf F d) (deepOf N d) v p p cs cs q q (λ r r′. Steady (v ∷ cs) p r → r′ ≡ r) (λ c. refl) refl (λ s. refl)
-    (λ h s. behind-same F 2 (lineOf width Comment p) cs q) (λ h. comment cs h)
-    (λ h s. behind-same F 2 (byteOf width p) cs q) (λ h s. behind-same F 2 (strOf width true p) cs q) (λ h s. refl) (λ k e o s. rw o) (λ o. o)
+    (λ h s. behind-same F N refl (lineOf width Comment p) cs q) (λ h. comment cs h)
+    (λ h s. behind-same F N refl (byteOf width p) cs q) (λ h s. behind-same F N refl (strOf width true p) cs q) (λ h s. refl) (λ k e o s. rw o) (λ o. o)
     (λ s. refl) (λ s. refl) (λ s. refl) (λ h. deep-same d v cs p) (λ s. refl)
   where
     F : Rules
@@ -190,7 +190,7 @@ close-steady n cs p (Refused r) = split (eqb (r .number) 12) (λ e. let z = eqb-
 next-same : (n : ℕ) (cs : List ℕ) (p : ℕ) → Steady cs p (nextOf (rulesOf firstClose) n cs p) → nextOf (rulesOf rune) n cs p ≡ nextOf (rulesOf firstClose) n cs p
 unfolding nextOf
 next-same n cs p =
-    split (both (eqb p 0) (isShebang cs)) (λ e. rw e (λ h. bang-same (rulesOf firstClose) 2 cs p))
+    split (both (eqb p 0) (isShebang cs)) (λ e. rw e (λ h. bang-same (rulesOf firstClose) (rulesOf rune) refl cs p))
     (λ e. rw e (λ h. ap (closeSpan n) (token-same 64 cs p (close-steady n cs p (tokenOf (rulesOf firstClose) 64 cs p) h))))
 
 -- a token of the list, or the refusal that ends it

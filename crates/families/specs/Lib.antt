@@ -6,3 +6,4 @@ pub mod Shape
 pub mod Tokens
 pub mod Switch
 pub mod Refusals
+pub mod Exponents

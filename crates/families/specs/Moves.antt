@@ -13,7 +13,7 @@ use Rattle.token.specs.declared.read.Span.{Span}
 use Rattle.token.specs.declared.read.Token.{Token}
 
 abbrev pub withStride : Rules → (ℕ → ℕ) → Rules
-withStride R w = record { stride = w; skip = R .skip; start = R .start; continue = R .continue }
+withStride R w = record { stride = w; skip = R .skip; start = R .start; continue = R .continue; exponents = R .exponents }
 
 -- g takes the places of the scalars cs, by R from p, to their places by the width w from g p
 abbrev pub Moves : Rules → (ℕ → ℕ) → (ℕ → ℕ) → List ℕ → ℕ → Type 0

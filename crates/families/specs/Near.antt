@@ -2,9 +2,10 @@
 use Prim.Native.Nat.{ℕ}
 use mathlib.Core.Path.{_≡_}
 use mathlib.Core.List.{List, [], _∷_, _++_}
+use mathlib.Core.Bool.{true}
 use Rattle.families.specs.Places.{placeAfter}
+use Rattle.readers.specs.Numbers.{asksDigit}
 use Rattle.readers.specs.Rules.{Rules}
-use Rattle.text.specs.Characters.{dot}
 use Rattle.token.specs.Reads.{reachedOf}
 use Rattle.token.specs.declared.read.Read.{Read}
 
@@ -15,12 +16,12 @@ SameFirst [] (w ∷ y) = ⊥
 SameFirst (v ∷ x) [] = ⊥
 SameFirst (v ∷ x) (w ∷ y) = v ≡ w
 
--- alike as far as any reader looks: one scalar, and after a `.` one more
+-- alike as far as any reader looks: one scalar, and where that asks for a digit (a `.`, a sign) one more
 abbrev pub Near : List ℕ → List ℕ → Type 0
 Near [] [] = Unit
 Near [] (w ∷ y) = ⊥
 Near (v ∷ x) [] = ⊥
-Near (v ∷ x) (w ∷ y) = (v ≡ w) × (v ≡ dot → SameFirst x y)
+Near (v ∷ x) (w ∷ y) = (v ≡ w) × (asksDigit v ≡ true → SameFirst x y)
 
 -- a reader whose answer stays the same with other scalars after the place that it reached, if they are near
 abbrev pub Local : Rules → (List ℕ → ℕ → Read) → Type 0

@@ -12,4 +12,4 @@ pub record Sane (R : Rules) : Type 0 where
 
 -- the same with another number of scalars passed over after `/*`
 abbrev pub withSkip : Rules → ℕ → Rules
-withSkip R n = record { stride = R .stride; skip = n; start = R .start; continue = R .continue }
+withSkip R n = record { stride = R .stride; skip = n; start = R .start; continue = R .continue; exponents = R .exponents }

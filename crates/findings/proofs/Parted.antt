@@ -9,8 +9,7 @@ use lib.Dec.{leb, eqb}
 use lib.ListN.{length}
 use borrow.Author.Tests.{eq-eqb, eqb-true, le-leb, ne-eqb}
 use Rattle.choice.specs.Rule.{behindOne, firstOf, otherOf, tokenWith}
-use Rattle.families.proofs.Pairs.{first-both}
-use Rattle.families.proofs.Sooner.{bang-same, behind-same}
+use Rattle.families.proofs.Pairs.{bang-same, behind-same, first-both}
 use Rattle.families.proofs.Switch.{Templated, body-templated}
 use Rattle.findings.specs.Findings.{underFirst}
 use Rattle.findings.specs.InStep.{partsOf}
@@ -60,8 +59,8 @@ first-kept : (d v : ℕ) (cs : List ℕ) (p : ℕ) → let F = rulesOf firstClos
 unfolding otherOf
 first-kept d v cs p =
     first-both N F (deepOf N d) (deepOf F d) v p p cs cs q q Kept (λ c. refl) refl (inl refl)
-    (λ h. inl (sym (behind-same F 2 (lineOf width Comment p) cs q))) (λ h. inr (behind-parted N 2 p cs q))
-    (λ h. inl (sym (behind-same F 2 (byteOf width p) cs q))) (λ h. inl (sym (behind-same F 2 (strOf width true p) cs q))) (λ h. inl refl) (λ k e o. inl (rw o)) (λ o. o)
+    (λ h. inl (sym (behind-same F N refl (lineOf width Comment p) cs q))) (λ h. inr (behind-parted N 2 p cs q))
+    (λ h. inl (sym (behind-same F N refl (byteOf width p) cs q))) (λ h. inl (sym (behind-same F N refl (strOf width true p) cs q))) (λ h. inl refl) (λ k e o. inl (rw o)) (λ o. o)
     (inl refl) (inl refl) (inl refl) (λ h. inr (deep-parted d p cs q)) (inl refl)
   where
     F : Rules
@@ -90,7 +89,7 @@ close-kept n r r′ (inr h) = inr (close-parted n r h)
 next-kept : (n : ℕ) (cs : List ℕ) (p : ℕ) → Kept (nextOf (rulesOf rune) n cs p) (nextOf (rulesOf firstClose) n cs p)
 unfolding nextOf
 next-kept n cs p =
-    split (both (eqb p 0) (isShebang cs)) (λ e. rw e (inl (sym (bang-same (rulesOf firstClose) 2 cs p))))
+    split (both (eqb p 0) (isShebang cs)) (λ e. rw e (inl (sym (bang-same (rulesOf firstClose) (rulesOf rune) refl cs p))))
     (λ e. rw e (close-kept n (tokenOf (rulesOf rune) 64 cs p) (tokenOf (rulesOf firstClose) 64 cs p) (token-kept 64 cs p)))
 
 by-comments : (c : Comments) (s : List ℕ) (p : ℕ) → (nextAt firstClose s p ≡ nextAt (record { comments = c }) s p) ⊎ Parted (nextAt (record { comments = c }) s p)

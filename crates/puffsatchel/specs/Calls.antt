@@ -14,7 +14,7 @@ use Rattle.source_test.specs.Source.{sourceTest}
 
 -- goes up with every change of a call, of a number or of what is promised
 abbrev pub version : ℕ
-version = 5
+version = 6
 
 abbrev pub testTells : List ℕ → Told
 testTells s = ofTested (sourceTest s)

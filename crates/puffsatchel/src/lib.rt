@@ -8,7 +8,7 @@ ghost use Rattle.puffsatchel.specs.Calls.{findingsLeaves, findingsTells,
 // A number that names no reading.
 const NO_SUCH_READING: u32 = 6;
 
-const VERSION: u32 = 5;
+const VERSION: u32 = 6;
 
 #[no_mangle]
 pub extern "C" fn puffsatchel_version() -> u32

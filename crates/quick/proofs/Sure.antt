@@ -24,7 +24,8 @@ use Rattle.quick.proofs.Passes.{pass-stop, run-bytes}
 use Rattle.quick.specs.Operators.{quickAt}
 use Rattle.quick.specs.Tokens.{ask, beginsWord, blankAt, isBlank, otherAt, passing, quickTokenAt, wordAt}
 use Rattle.quick.specs.declared.tokens.Quick.{Quick}
-use Rattle.readers.specs.Readers.{inNumber, whiteOf, wordOf}
+use Rattle.readers.specs.Numbers.{inNumber}
+use Rattle.readers.specs.Readers.{whiteOf, wordOf}
 use Rattle.readers.specs.Rules.{rulesOf}
 use Rattle.readers.specs.declared.reading.Reading.{Reading}
 use Rattle.text.proofs.Decode.{rest-end, step-ascii}

@@ -7,7 +7,7 @@ use lib.ListN.{drop, getD, length}
 use Rattle.laws.specs.Bools.{both, either, pick, within}
 use Rattle.quick.specs.Operators.{quickAt}
 use Rattle.quick.specs.declared.tokens.Quick.{Quick}
-use Rattle.readers.specs.Readers.{inNumber}
+use Rattle.readers.specs.Numbers.{inNumber}
 use Rattle.text.specs.Characters.{doubleQuote, letterB, quote, underscore}
 
 -- tab, line feed, carriage return and space

@@ -5,7 +5,7 @@ ghost use Prim.Native.Nat.{_+_};
 ghost use mathlib.Core.Path.{_≡_};
 ghost use lib.ListN.{drop, length};
 ghost use Rattle.quick.specs.Tokens.{ask, beginsWord, blankAt, isBlank, otherAt, passing, quickTokenAt, wordAt};
-ghost use Rattle.readers.specs.Readers.{inNumber};
+ghost use Rattle.readers.specs.Numbers.{inNumber};
 
 // Its kind's number, and where it ends. Number 0: the reader has to be asked.
 pub struct Quick {

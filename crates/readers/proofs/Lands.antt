@@ -8,7 +8,8 @@ use native.Mathlib.Omega.{arith}
 use lib.ListN.{length}
 use Rattle.classes.specs.Classes.{isWhiteSpace}
 use Rattle.readers.proofs.Scans.{by-act}
-use Rattle.readers.specs.Readers.{Bytes, Chars, Quoted, backslashed, body, broken, byteAnswer, byteOf, byteStep, charAnswer, charOf, charStep, commentEnd, commentOf, commentStep, control, escape, fresh, inLine, integral, letters, lineOf, numberLitOf, numberStep, run, runStep, shut, skips, slashed, strAnswer, strOf, strStep, text, whiteOf, wordOf}
+use Rattle.readers.specs.Numbers.{firstPart, numberEnd, numberLitOf, numberStep, plainStep, unsigned}
+use Rattle.readers.specs.Readers.{Bytes, Chars, Quoted, backslashed, body, broken, byteAnswer, byteOf, byteStep, charAnswer, charOf, charStep, commentEnd, commentOf, commentStep, control, escape, fresh, inLine, letters, lineOf, run, runStep, shut, skips, slashed, strAnswer, strOf, strStep, text, whiteOf, wordOf}
 use Rattle.readers.specs.Rules.{Rules, rulesOf}
 use Rattle.readers.specs.Scan.{Act, How, ended, full, scan, short}
 use Rattle.readers.specs.declared.reading.Reading.{Reading}
@@ -60,9 +61,10 @@ module _ (R : Rules) where
     unfolding wordOf
     word-lands v = run-lands (R .continue) cs p
 
-    pub number-lands : Lands R cs p (reachedOf (numberLitOf (R .stride) a cs p))
-    unfolding numberLitOf
-    number-lands = scan-lands numberStep integral p cs p
+    pub number-lands : (v : ℕ) (e : Bool) → Lands R cs p (reachedOf (numberLitOf (R .stride) e v a cs p))
+    unfolding numberLitOf numberEnd
+    number-lands v true = scan-lands numberStep (unsigned true (firstPart v)) p cs p
+    number-lands v false = scan-lands plainStep true p cs p
 
     -- what these three answer reaches the place of the stop, whatever the answer is
     pub byte-reached : (st : Bytes) (l q : ℕ) (h : How) → reachedOf (byteAnswer a st l q h) ≡ q

@@ -59,3 +59,7 @@ module _ {S : Type 0} {A : Type 0} (step : S → ℕ → List ℕ → Act S) (w 
   unfolding scan
   scan-last st l l′ [] p = refl
   scan-last st l l′ (v ∷ cs) p = by-act (step st v cs) (λ s e. rw (e, scan) refl) (λ s e. rw (e, scan) refl) (λ s e. rw (e, scan) refl)
+
+-- .. so the scan from here on stops where the scan from the start does
+pub goes-place : {S : Type 0} (step : S → ℕ → List ℕ → Act S) (st : S) (s : List ℕ) (p : ℕ) (o : Stop S) → Goes step st s p o → (l : ℕ) → scan step width st l (rest s p) p .place ≡ o .place
+goes-place step st s p o g l = scan-last step width (λ x q h. q) st l (g .0) (rest s p) p ∙ ap (λ (x : Stop _). x .place) (g .1)

@@ -7,8 +7,10 @@ use native.Mathlib.Omega.{arith}
 use borrow.Author.Tests.{eq-eqb, ne-eqb}
 use Rattle.classes.specs.Classes.{isControl}
 use Rattle.laws.specs.Bools.{both}
-use Rattle.readers.specs.Readers.{Digits, backslashed, beginsDigit, body, broken, byteStep, charAnswer, charStep, control, escape, fractional, inLabel, inNumber, integral, letters, numberStep, runStep, shut, slashed, strStep, text}
+use Rattle.readers.specs.Numbers.{beginsDigit, inDigits, inNumber, joins, numberStep, partOn, partPastDot, signed, unsigned}
+use Rattle.readers.specs.Readers.{backslashed, body, broken, byteStep, charAnswer, charStep, control, escape, inLabel, letters, runStep, shut, slashed, strStep, text}
 use Rattle.readers.specs.Scan.{before, behind, on}
+use Rattle.readers.specs.declared.number.Part.{Part}
 
 pub run-yes : (f : ℕ → Bool) (v : ℕ) (cs : List ℕ) → f v ≡ true → runStep f tt v cs ≡ on tt
 run-yes f v cs h = rw h
@@ -49,33 +51,37 @@ module _ (e : Bool) (v : ℕ) (cs : List ℕ) where
     unfolding strStep
     str-more h = rw (ne-eqb v 34 n, ne-eqb v 92 h, strStep)
 
--- the code's flag: no `.` was taken yet
-abbrev pub digitsAt : Bool → Digits
-digitsAt true = integral
-digitsAt false = fractional
-
 module _ (v : ℕ) (cs : List ℕ) where
-  pub number-more : (b : Bool) → inNumber v ≡ true → numberStep (digitsAt b) v cs ≡ on (digitsAt b)
+  module _ (w : Bool) (r : Part) where
+    pub number-more : inNumber v ≡ true → numberStep (unsigned w r) v cs ≡ on (unsigned w (partOn r v))
+    unfolding numberStep
+    number-more h = rw (h, numberStep)
+
+    module _ (n : inNumber v ≡ false) where
+      pub number-other : joins w r v ≡ false → numberStep (unsigned w r) v cs ≡ before (unsigned w r)
+      unfolding numberStep
+      number-other h = rw (n, h, numberStep)
+
+      module _ (j : joins w r v ≡ true) where
+        pub number-bare : beginsDigit cs ≡ false → numberStep (unsigned w r) v cs ≡ before (unsigned w r)
+        unfolding numberStep
+        number-bare h = rw (n, j, h, numberStep)
+
+        pub number-dot : beginsDigit cs ≡ true → v ≡ 46 → numberStep (unsigned w r) v cs ≡ on (unsigned false (partPastDot r))
+        unfolding numberStep
+        number-dot h k = rw (n, j, h, eq-eqb v 46 k, numberStep)
+
+        pub number-sign : beginsDigit cs ≡ true → (v ≡ 46 → ⊥) → numberStep (unsigned w r) v cs ≡ on signed
+        unfolding numberStep
+        number-sign h k = rw (n, j, h, ne-eqb v 46 k, numberStep)
+
+  pub power-more : inDigits v ≡ true → numberStep signed v cs ≡ on signed
   unfolding numberStep
-  number-more true h = rw (h, numberStep)
-  number-more false h = rw (h, numberStep)
+  power-more h = rw (h, numberStep)
 
-  module _ (n : inNumber v ≡ false) where
-    pub number-part : numberStep fractional v cs ≡ before fractional
-    unfolding numberStep
-    number-part = rw (n, numberStep)
-
-    pub number-other : (v ≡ 46 → ⊥) → numberStep integral v cs ≡ before integral
-    unfolding numberStep
-    number-other h = rw (n, ne-eqb v 46 h, numberStep)
-
-    pub number-bare : v ≡ 46 → beginsDigit cs ≡ false → numberStep integral v cs ≡ before integral
-    unfolding numberStep
-    number-bare h k = rw (n, eq-eqb v 46 h, k, numberStep)
-
-    pub number-dot : v ≡ 46 → beginsDigit cs ≡ true → numberStep integral v cs ≡ on fractional
-    unfolding numberStep
-    number-dot h k = rw (n, eq-eqb v 46 h, k, numberStep)
+  pub power-other : inDigits v ≡ false → numberStep signed v cs ≡ before signed
+  unfolding numberStep
+  power-other h = rw (h, numberStep)
 
 module _ (l m : Bool) (v : ℕ) (cs : List ℕ) where
   pub char-close : v ≡ 39 → charStep (letters l m) v cs ≡ behind (shut m)

@@ -1,4 +1,5 @@
 pub mod Rules
 pub mod Scan
 pub mod Readers
+pub mod Numbers
 pub mod Passing

@@ -1,7 +1,7 @@
 -- Document 01, "How one token is read" with "Refusal numbers and places", rule by rule in its order. A reader takes the scalars after
 -- a token's opening, their place, and the place a where the token started.
 use Prim.Native.Nat.{ℕ, zero, suc}
-use mathlib.Core.List.{List, [], _∷_}
+use mathlib.Core.List.{List}
 use mathlib.Core.Bool.{Bool, true, false, not}
 use lib.Dec.{eqb}
 use Rattle.classes.specs.Classes.{isControl, isWhiteSpace}
@@ -10,10 +10,10 @@ use Rattle.laws.specs.Bools.{both, either, pick, within}
 use Rattle.readers.specs.Rules.{Rules}
 use Rattle.readers.specs.Scan.{Act, How, Stop, Stride, before, behind, ended, full, on, scan, short}
 use Rattle.readers.specs.declared.comments.Ended.{Ended}
-use Rattle.text.specs.Characters.{backslash, dot, doubleQuote, lineFeed, quote, slash, star, underscore}
+use Rattle.text.specs.Characters.{backslash, doubleQuote, lineFeed, quote, slash, star, underscore}
 use Rattle.token.specs.Reads.{gotOf, refusedOf}
 use Rattle.token.specs.declared.kind.Kind.{Kind}
-use Rattle.token.specs.declared.kind.Kind.the-variants.{Byte, ByteStr, Char, Ident, Label, MultilineComment, Number, Str, Underscore, Whitespace}
+use Rattle.token.specs.declared.kind.Kind.the-variants.{Byte, ByteStr, Char, Ident, Label, MultilineComment, Str, Underscore, Whitespace}
 use Rattle.token.specs.declared.read.Read.{Read}
 
 -- the place where the longest run of scalars that pass a test ends
@@ -118,25 +118,6 @@ startsWord R v = either (eqb v underscore) (R .start v)
 
 unfoldable pub wordOf : Stride → (ℕ → Bool) → ℕ → ℕ → List ℕ → ℕ → Read
 wordOf w more v a cs p = let e = run w more cs p in gotOf (pick (both (eqb v underscore) (eqb e p)) Underscore Ident) a e
-
--- a number: ASCII letters, digits and `_`; once, a `.` with a digit right after it belongs to it too
-abbrev pub inNumber : ℕ → Bool
-inNumber v = either (isDigit v) (either (within 65 90 v) (either (within 97 122 v) (eqb v underscore)))
-
-abbrev pub beginsDigit : List ℕ → Bool
-beginsDigit [] = false
-beginsDigit (v ∷ cs) = isDigit v
-
-pub data Digits : Type 0 where
-  integral : Digits
-  fractional : Digits
-
-unfoldable pub numberStep : Digits → ℕ → List ℕ → Act Digits
-numberStep integral v cs = pick (inNumber v) (on integral) (pick (both (eqb v dot) (beginsDigit cs)) (on fractional) (before integral))
-numberStep fractional v cs = pick (inNumber v) (on fractional) (before fractional)
-
-unfoldable pub numberLitOf : Stride → ℕ → List ℕ → ℕ → Read
-numberLitOf w a cs p = gotOf Number a (scan numberStep w integral p cs p .place)
 
 -- a char or a label: the first flag says that it may still be a label, the second that something was counted
 pub data Chars : Type 0 where

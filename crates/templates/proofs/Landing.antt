@@ -39,7 +39,7 @@ module _ (R : Rules) where
       first-cases R t v a cs p (λ r. Lands R cs p (reachedOf r)) (white-lands R a cs p)
       (λ h. behind-lands (lineOf (R .stride) Comment a) (λ ds q. line-lands R a ds q Comment) cs p) (λ h. behind-lands (commentOf (R .stride) (R .skip) a) (comment-lands R a) cs p)
       (λ h. behind-lands (byteOf (R .stride) a) (byte-lands R a) cs p) (λ h. behind-lands (strOf (R .stride) true a) (λ ds q. str-lands R a ds q true) cs p)
-      (str-lands R a cs p false) (λ k e h. operator-lands R v cs p k e h) (word-lands R a cs p v) (number-lands R a cs p) (char-lands R a cs p) (d a cs p)
+      (str-lands R a cs p false) (λ k e h. operator-lands R v cs p k e h) (word-lands R a cs p v) (number-lands R a cs p v (R .exponents)) (char-lands R a cs p) (d a cs p)
       (lands-here R cs p)
 
   with-lands : (t : Deep) → DeepLands t → NextLands (tokenWith R t)

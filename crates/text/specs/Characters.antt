@@ -25,11 +25,23 @@ quote = 39
 abbrev pub star : ℕ
 star = 42
 
+abbrev pub plus : ℕ
+plus = 43
+
+abbrev pub minus : ℕ
+minus = 45
+
 abbrev pub dot : ℕ
 dot = 46
 
 abbrev pub slash : ℕ
 slash = 47
+
+abbrev pub digitZero : ℕ
+digitZero = 48
+
+abbrev pub capitalE : ℕ
+capitalE = 69
 
 abbrev pub backslash : ℕ
 backslash = 92
@@ -43,8 +55,14 @@ backtick = 96
 abbrev pub letterB : ℕ
 letterB = 98
 
+abbrev pub letterE : ℕ
+letterE = 101
+
 abbrev pub letterN : ℕ
 letterN = 110
+
+abbrev pub letterO : ℕ
+letterO = 111
 
 abbrev pub letterR : ℕ
 letterR = 114

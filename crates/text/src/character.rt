@@ -15,9 +15,17 @@ pub const QUOTE: u32 = 39;
 
 pub const STAR: u32 = 42;
 
+pub const PLUS: u32 = 43;
+
+pub const MINUS: u32 = 45;
+
 pub const DOT: u32 = 46;
 
 pub const SLASH: u32 = 47;
+
+pub const DIGIT_ZERO: u32 = 48;
+
+pub const CAPITAL_E: u32 = 69;
 
 pub const BACKSLASH: u32 = 92;
 
@@ -27,7 +35,11 @@ pub const BACKTICK: u32 = 96;
 
 pub const LETTER_B: u32 = 98;
 
+pub const LETTER_E: u32 = 101;
+
 pub const LETTER_N: u32 = 110;
+
+pub const LETTER_O: u32 = 111;
 
 pub const LETTER_R: u32 = 114;
 

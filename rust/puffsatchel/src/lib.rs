@@ -71,7 +71,7 @@ pub const BYTES_PER_RECORD: usize = 11;
 pub const LARGEST_STORED: usize = BYTES_PER_RECORD * LARGEST_SOURCE;
 
 /// The version of the face that this wrapper is written for.
-pub const VERSION: u32 = 5;
+pub const VERSION: u32 = 6;
 
 /// The version of the archive that is linked. Where it is not [`VERSION`], build wrapper and archive from one commit.
 #[must_use]

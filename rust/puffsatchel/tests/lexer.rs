@@ -1,4 +1,4 @@
-//! Reading token by token. What is expected is document 01's.
+//! Reading token by token. What is expected is document 01's, and of numbers document 02's.
 
 use puffsatchel::{read, test, version, LARGEST_SOURCE, VERSION};
 use puffsatchel::{Code, Delimiter, Kind, Lexer, Reading, Reason, Refusal, Span, Token};
@@ -38,7 +38,7 @@ const OPERATORS: &str = "! # $ % & ( ) * + , - . / : ; < = > ? @ [ ] ^ { | } ~ \
 
 #[test]
 fn examples() {
-    let table: [(&str, &[[usize; 3]], Option<[usize; 4]>); 14] = [
+    let table: [(&str, &[[usize; 3]], Option<[usize; 4]>); 20] = [
         ("", &[], None),
         ("/*/", &[[4, 0, 3]], None),
         ("/*ab*/", &[[3, 0, 6]], None),
@@ -53,6 +53,12 @@ fn examples() {
         ("b'\\''", &[[10, 0, 4]], Some([13, 4, 5, 5])),
         ("a;", &[[6, 0, 1], [31, 1, 2]], None),
         ("#!a\n_ 1.5", &[[5, 0, 3], [1, 3, 4], [7, 4, 5], [1, 5, 6], [8, 6, 9]], None),
+        ("1e-3", &[[8, 0, 4]], None),
+        ("1.5e+2", &[[8, 0, 6]], None),
+        ("1_0E-0_3;", &[[8, 0, 8], [31, 8, 9]], None),
+        ("1e-x", &[[8, 0, 2], [27, 2, 3], [6, 3, 4]], None),
+        ("0xe-3", &[[8, 0, 3], [27, 3, 4], [8, 4, 5]], None),
+        ("1e\u{2212}3", &[[8, 0, 2]], Some([18, 2, 5, 5])),
     ];
 
     for (source, tokens, refused) in table {
@@ -208,5 +214,5 @@ fn every_code_says_what_and_what_to_do() {
 
 #[test]
 fn wrapper_and_archive_are_of_one_version() {
-    assert_eq!((version(), VERSION), (5, 5));
+    assert_eq!((version(), VERSION), (6, 6));
 }

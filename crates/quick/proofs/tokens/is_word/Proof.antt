@@ -3,7 +3,7 @@ use mathlib.Core.Path.{sym, ap}
 use native.Mathlib.Omega.{arith}
 use borrow.Author.Tests.{ne-eqb}
 use Rattle.laws.proofs.Cases.{either-true, within-high, within-low, within-yes}
-use Rattle.readers.specs.Readers.{inNumber}
+use Rattle.readers.specs.Numbers.{inNumber}
 use Rattle.quick.proofs.tokens.is_word.Statement.{statement}
 use Rattle.quick.proofs.tokens.is_word.Tie as tie
 

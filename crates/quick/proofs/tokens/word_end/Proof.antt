@@ -7,7 +7,7 @@ use lib.ListN.{drop, length}
 use borrow.Author.Tests.{not-false, not-true}
 use Rattle.quick.proofs.Passes.{pass-end, pass-next, pass-stop}
 use Rattle.quick.specs.Tokens.{passing}
-use Rattle.readers.specs.Readers.{inNumber}
+use Rattle.readers.specs.Numbers.{inNumber}
 use Rattle.quick.proofs.tokens.word_end.Statement.{statement}
 use Rattle.quick.proofs.tokens.word_end.Tie as tie
 

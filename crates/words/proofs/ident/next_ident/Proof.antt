@@ -1,4 +1,4 @@
--- Made from fills/words.py by tools/prove.py: change that, not this.
+-- Made from fills/ident.py by tools/prove.py: change that, not this.
 use Prim.Native.Nat.{ℕ}
 use mathlib.Core.Path.{sym, ap, ap₂, _∙_}
 use mathlib.Core.Bool.{Bool}
@@ -11,8 +11,8 @@ use Rattle.laws.specs.Bools.{both, pick}
 use Rattle.readers.specs.Readers.{wordOf}
 use Rattle.token.specs.Reads.{gotOf}
 use Rattle.token.specs.declared.kind.Kind.the-variants.{Ident, Underscore}
-use Rattle.words.proofs.next_ident.Statement.{statement}
-use Rattle.words.proofs.next_ident.Tie as tie
+use Rattle.words.proofs.ident.next_ident.Statement.{statement}
+use Rattle.words.proofs.ident.next_ident.Tie as tie
 
 word-end-requires : tie.Need-word-end-requires
 word-end-requires c κs = search needs

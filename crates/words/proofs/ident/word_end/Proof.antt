@@ -1,4 +1,4 @@
--- Made from fills/words.py by tools/prove.py: change that, not this.
+-- Made from fills/ident.py by tools/prove.py: change that, not this.
 use Prim.Native.Nat.{_-_}
 use mathlib.Core.Path.{refl, sym, ap, _∙_}
 use native.Mathlib.Omega.{arith}
@@ -12,8 +12,8 @@ use Rattle.readers.specs.Readers.{run, runStep}
 use Rattle.readers.specs.Scan.{Stop, scan}
 use Rattle.text.proofs.Decode.{step-none, step-one}
 use Rattle.text.specs.Utf8.{rest, width}
-use Rattle.words.proofs.word_end.Statement.{statement}
-use Rattle.words.proofs.word_end.Tie as tie
+use Rattle.words.proofs.ident.word_end.Statement.{statement}
+use Rattle.words.proofs.ident.word_end.Tie as tie
 
 abbrev Inv-loop : tie.InvT-loop
 Inv-loop s at p₀ p = Goes (runStep isXidContinue) tt s p (scan (runStep isXidContinue) width tt at (rest s at) at)

@@ -1,10 +1,10 @@
--- Made from fills/words.py by tools/prove.py: change that, not this.
+-- Made from fills/number.py by tools/prove.py: change that, not this.
 use mathlib.Core.Path.{sym, ap, _∙_}
 use borrow.Author.Needs.{needs}
-use Rattle.readers.specs.Readers.{beginsDigit}
+use Rattle.readers.specs.Numbers.{beginsDigit}
 use Rattle.text.proofs.Decode.{step-none, step-one}
-use Rattle.words.proofs.digit_at.Statement.{statement}
-use Rattle.words.proofs.digit_at.Tie as tie
+use Rattle.words.proofs.number.digit_at.Statement.{statement}
+use Rattle.words.proofs.number.digit_at.Tie as tie
 
 scalar-at-requires : tie.Need-scalar-at-requires
 scalar-at-requires c κs = search needs

@@ -1,11 +1,11 @@
--- Made from fills/words.py by tools/prove.py: change that, not this.
+-- Made from fills/number.py by tools/prove.py: change that, not this.
 use mathlib.Core.Path.{sym, ap}
 use native.Mathlib.Omega.{arith}
 use borrow.Author.Tests.{ne-eqb}
 use Rattle.laws.proofs.Cases.{either-true, within-high, within-low, within-yes}
-use Rattle.readers.specs.Readers.{inNumber}
-use Rattle.words.proofs.in_number.Statement.{statement}
-use Rattle.words.proofs.in_number.Tie as tie
+use Rattle.readers.specs.Numbers.{inNumber}
+use Rattle.words.proofs.number.in_number.Statement.{statement}
+use Rattle.words.proofs.number.in_number.Tie as tie
 
 returns : tie.Need-returns
 returns c = simp (within-low 48 57 (c .before .before .args .v) (omega arith), within-low 65 90 (c .before .before .args .v) (omega arith), within-low 97 122 (c .before .before .args .v) (omega arith), ne-eqb (c .before .before .args .v) 95 (c .before .match .rest .1))
