@@ -14,7 +14,7 @@ use Rattle.laws.proofs.Cases.{both-false, both-inv, never, split}
 use Rattle.laws.specs.Bools.{both}
 use Rattle.lexer.specs.Next.{closeSpan, isShebang, nextOf}
 use Rattle.readers.proofs.Steps.{number-bare, number-dot, number-more, number-other}
-use Rattle.readers.specs.Numbers.{beginsDigit, firstPart, inDigits, inNumber, isBase, isE, joins, numberEnd, numberLitOf, numberStep, partOn, partPastDot, plainStep, takesSign, unsigned}
+use Rattle.readers.specs.Numbers.{beginsDigit, firstPart, inDigits, inNumber, isBase, isE, joins, numberEnd, numberLitOf, numberStep, partOn, partPastDot, pastDigits, plainStep, takesSign, unsigned}
 use Rattle.readers.specs.Readers.{byteOf, commentOf, lineOf, strOf}
 use Rattle.readers.specs.Rules.{Rules, rulesOf}
 use Rattle.readers.specs.Scan.{Stride, before, on, scan}
@@ -34,7 +34,7 @@ abbrev Calm : Part → List ℕ → Type 0
 Calm r cs = takesSign r ≡ true → beginsSign cs ≡ false
 
 module _ (v : ℕ) (cs : List ℕ) (h : both (isE v) (beginsSign cs) ≡ false) where
-  calm-digits : Calm (partOn Digits v) cs
+  calm-digits : Calm (pastDigits v) cs
   calm-digits = split (inDigits v) (λ e. rw e (λ i. never (cc))) (λ e. rw e (split (isE v) (λ f. rw f (λ i. (rw f at h))) (λ f. rw f (λ i. never (cc)))))
 
   calm-on : (r : Part) → Calm (partOn r v) cs

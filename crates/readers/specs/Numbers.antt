@@ -17,13 +17,13 @@ use Rattle.token.specs.declared.read.Read.{Read}
 abbrev pub inNumber : ℕ → Bool
 inNumber v = either (isDigit v) (either (within 65 90 v) (either (within 97 122 v) (eqb v underscore)))
 
--- document 01: the longest run of these; one `.` directly followed by a digit is taken with its run, at most once (the flag: none was taken yet)
+-- document 01: the longest run of these; one `.` directly followed by a digit is taken with its run, at most once (`whole`: none was taken yet)
 abbrev pub beginsDigit : List ℕ → Bool
 beginsDigit [] = false
 beginsDigit (v ∷ cs) = isDigit v
 
 unfoldable pub plainStep : Bool → ℕ → List ℕ → Act Bool
-plainStep w v cs = pick (inNumber v) (on w) (pick (both w (both (eqb v dot) (beginsDigit cs))) (on false) (before w))
+plainStep whole v cs = pick (inNumber v) (on whole) (pick (both whole (both (eqb v dot) (beginsDigit cs))) (on false) (before whole))
 
 -- A2: in a number that does not begin with `0x`, `0b` or `0o`
 abbrev pub isBase : ℕ → Bool
@@ -40,9 +40,12 @@ isE v = either (eqb v letterE) (eqb v capitalE)
 abbrev pub firstPart : ℕ → Part
 firstPart v = pick (eqb v digitZero) Zero Digits
 
+abbrev pub pastDigits : ℕ → Part
+pastDigits v = pick (inDigits v) Digits (pick (isE v) Exponent Mixed)
+
 abbrev pub partOn : Part → ℕ → Part
-partOn Zero v = pick (isBase v) Based (pick (inDigits v) Digits (pick (isE v) Exponent Mixed))
-partOn Digits v = pick (inDigits v) Digits (pick (isE v) Exponent Mixed)
+partOn Zero v = pick (isBase v) Based (pastDigits v)
+partOn Digits v = pastDigits v
 partOn Exponent v = Mixed
 partOn Mixed v = Mixed
 partOn Based v = Based
@@ -69,20 +72,22 @@ takesSign Based = false
 abbrev pub asksDigit : ℕ → Bool
 asksDigit v = either (eqb v dot) (isSign v)
 
--- a number up to the sign (no `.` was taken yet?, and the part so far), and after it
+-- a number up to the sign (whether no `.` was taken yet, and the part so far), and after it
 pub data Numeral : Type 0 where
   unsigned : Bool → Part → Numeral
   signed : Numeral
 
 abbrev pub joins : Bool → Part → ℕ → Bool
-joins w r v = both (asksDigit v) (pick (eqb v dot) w (takesSign r))
+joins whole part v = both (asksDigit v) (pick (eqb v dot) whole (takesSign part))
 
 abbrev pub joined : Part → ℕ → Numeral
-joined r v = pick (eqb v dot) (unsigned false (partPastDot r)) signed
+joined part v = pick (eqb v dot) (unsigned false (partPastDot part)) signed
 
 -- the sign and the digits and `_` after it join the token, which then ends
 unfoldable pub numberStep : Numeral → ℕ → List ℕ → Act Numeral
-numberStep (unsigned w r) v cs = pick (inNumber v) (on (unsigned w (partOn r v))) (pick (both (joins w r v) (beginsDigit cs)) (on (joined r v)) (before (unsigned w r)))
+numberStep (unsigned whole part) v cs =
+    pick (inNumber v) (on (unsigned whole (partOn part v)))
+    (pick (both (joins whole part v) (beginsDigit cs)) (on (joined part v)) (before (unsigned whole part)))
 numberStep signed v cs = pick (inDigits v) (on signed) (before signed)
 
 -- with signed exponents or without; v is the first digit

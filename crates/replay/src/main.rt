@@ -1,5 +1,6 @@
 // Answers framed inputs as rust/oracle does, so that our answers can be compared with the Rust's: mode `L`, a source to list.
-// What it must print is what the Rust answered: `stdin` and `stdout` are rust/recorded/list.frames and list.answers.
+// What it must print is what the Rust answered, and of numbers what tests/numbers.py says: `stdin` and `stdout` are rust/recorded/list.frames and
+// list.answers, with numbers.frames and numbers.answers after them.
 use readers::Comments;
 use readers::Reading;
 ghost use Prim.Native.Nat.{_≤_, _<_};

@@ -15,9 +15,8 @@ use token::Kind;
 use token::Read;
 ghost use mathlib.Core.Path.{_≡_};
 ghost use mathlib.Core.Bool.{true};
-ghost use Rattle.readers.specs.Numbers.{beginsDigit, firstPart, inDigits, inNumber, isBase, joins, numberLitOf, numberStep, partOn, partPastDot, signed, takesSign};
+ghost use Rattle.readers.specs.Numbers.{beginsDigit, firstPart, inDigits, inNumber, isBase, joins, numberLitOf, numberStep, partOn, partPastDot, pastDigits, signed, takesSign};
 ghost use Rattle.readers.specs.Scan.{scan};
-ghost use Rattle.readers.specs.declared.number.Part.the-variants.{Digits};
 ghost use Rattle.text.specs.Utf8.{first, rest, width};
 
 // A letter, a digit or `_`, all ASCII.
@@ -60,7 +59,7 @@ fn first_part(first: u32) -> Part
 
 // Digits and `_`, and one scalar more.
 fn past_digits(v: u32) -> Part
-    ensures { λ r. ⌜ r ≡ partOn Digits v ⌝ }
+    ensures { λ r. ⌜ r ≡ pastDigits v ⌝ }
 {
     if in_digits(v) {
         return Part::Digits;
