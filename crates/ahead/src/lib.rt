@@ -1,4 +1,6 @@
 // The state of the parser's lookahead buffer, and a fresh one. In proofs/spread: how a call lends the state's arrays where they lie.
+#![tactic(auto)]
+
 ghost use Rattle.std.specs.Prelude.{◌≡◌};
 ghost use Rattle.ahead.specs.View.{fresh_by, view_of};
 ghost use Rattle.looks.specs.Front.{yes};

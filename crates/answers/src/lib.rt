@@ -1,4 +1,6 @@
 // What a call answers, in numbers, for callers in other languages: each equals its definition in specs/.
+#![tactic(auto)]
+
 mod form;
 mod reading;
 

@@ -1,4 +1,6 @@
 // The reading that the arguments of a program name. What two words name equals its definition in specs/; no contract says what the program was started with.
+#![tactic(auto)]
+
 ghost use Rattle.std.specs.Prelude.{◌≡◌};
 ghost use Rattle.arguments.specs.Words.{chosen_of, reading_named};
 

@@ -1,6 +1,8 @@
 // A lent buffer that is written out whenever it is full, and one that is filled from a descriptor. What writes takes how much of the buffer
 // waits and answers how much waits then.
 // Every function here is safe and ends. What is read and what reaches standard output no contract can say: runs show it.
+#![tactic(auto)]
+
 pub mod page;
 
 ghost use Rattle.buffer.specs.Fits.{Fits};

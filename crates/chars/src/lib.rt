@@ -1,4 +1,6 @@
 // A char or a label, from after the `'` on.
+#![tactic(auto)]
+
 ghost use Rattle.std.specs.Prelude.{◌≡◌};
 ghost use Rattle.readers.specs.Readers.{char_answer, char_of, in_label, letters};
 ghost use Rattle.text.specs.Utf8.{rest, width};

@@ -1,5 +1,7 @@
 // What rule files have that their writers would want to know, told for a person or a script. The last act is the status on descriptor 3:
 // 0 nothing found, 1 something found or refused, 2 could not run.
+#![tactic(auto)]
+
 mod asked;
 mod files;
 mod records;

@@ -1,4 +1,6 @@
 // Every rule but the template's. The scalar read first stands at `start` and ends at `at`.
+#![tactic(auto)]
+
 ghost use Rattle.std.specs.Prelude.{◌≡◌};
 ghost use Rattle.choice.specs.Rule.{first_of, left_of, no_template, other_of};
 ghost use Rattle.readers.specs.Rules.{rules_of, rune};

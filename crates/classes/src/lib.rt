@@ -1,4 +1,6 @@
 // The classes of document 01. ASCII is settled by comparisons alone; what is left is looked up in a table of ranges that ascend.
+#![tactic(auto)]
+
 mod digits;
 
 ghost use Rattle.std.specs.Prelude.{◌<◌, ◌≡◌, true};

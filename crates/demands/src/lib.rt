@@ -1,1 +1,2 @@
 // No code: what document 01 demands of whole sources. Statements in specs/ and proofs/.
+#![tactic(auto)]

@@ -52,7 +52,7 @@ module _ (l : List ℕ) (R : State → List ℕ → State → Type 0) (r : Kept 
       (λ s₁. goes_gathers n (gather l st) s₁ (omega arith) b.1)
 
   goes_fill : (n : ℕ) (st : State) → Sound l st → n ≤ 7 → fits l n st.nums ≡ true → Goes st [] (fill l n st)
-  goes_fill n st s h f = let few = s.bounded.held-few in goes_gathers (n + 1 - st.nums.held_len) st s (omega arith) f
+  goes_fill n st s h f = let few = s.bounded.held_few in goes_gathers (n + 1 - st.nums.held_len) st s (omega arith) f
 
   goes_bump : (st : State) → Sound l st → Goes st (front_words l st) (bumped st)
   goes_bump st s = (sound_bumped l st s, r.bumping st s)

@@ -55,7 +55,7 @@ module _ (l : List ℕ) (st : State) where
   bounded_yes : Bounded l m → bounded_by l m ≡ true
   unfolding bounded_by
   bounded_yes b =
-      rw (le-leb _ _ b.held-few, le-leb _ _ b.wait-few, lt-ltb _ _ b.held_in, lt-ltb _ _ b.wait-in, le-leb _ _ b.reach)
+      rw (le-leb _ _ b.held_few, le-leb _ _ b.wait_few, lt-ltb _ _ b.held_in, lt-ltb _ _ b.wait_in, le-leb _ _ b.reach)
 
   pub sound_is : whole_by l ≡ true → Sound l st → (t : ℕ) → sound_by t l st ≡ true
   unfolding sound_by ordered_by
@@ -119,12 +119,12 @@ module _ (l : List ℕ) (st : State) (s : Sound l st) where
   gather_bounds few room =
       let t = gather_next in
       let b = s.bounded in
-      let old = b.held-few in
+      let old = b.held_few in
       record {
         held-few = split_le (token_count l) p₁ (λ h. rw (le-ltb p₁ (token_count l) h) (omega arith)) (λ h. rw (lt-ltb p₁ (token_count l) h) (omega arith));
         wait-few = room;
         held_in = b.held_in;
-        wait-in = b.wait-in;
+        wait-in = b.wait_in;
         reach = split_le (token_count l) p₁ (λ h. rw (le-ltb p₁ (token_count l) h) (omega arith)) (λ h. rw (lt-ltb p₁ (token_count l) h) (omega arith));
       }
 
@@ -178,16 +178,16 @@ module _ (l : List ℕ) (st : State) (s : Sound l st) where
   unfolding less_waiting
   less_bounds w =
       let b = s.bounded in
-      let few = b.wait-few in
-      record { held-few = b.held-few; wait-few = omega arith; held_in = b.held_in; wait-in = omega arith; reach = b.reach }
+      let few = b.wait_few in
+      record { held-few = b.held_few; wait-few = omega arith; held_in = b.held_in; wait-in = omega arith; reach = b.reach }
 
   held_bounds : (n : Nums) → Bounded l n → Bounded l (less_held n)
   unfolding less_held
   held_bounds n b =
-      let few = b.held-few in
+      let few = b.held_few in
       split (eqb n.held_len 0)
       (λ z. rw z b)
-      (λ z. rw z (record { held-few = omega arith; wait-few = b.wait-few; held_in = omega arith; wait-in = b.wait-in; reach = b.reach }))
+      (λ z. rw z (record { held-few = omega arith; wait-few = b.wait_few; held_in = omega arith; wait-in = b.wait_in; reach = b.reach }))
 
   bump_held : rises false l (held_of (bumped st)) 0 (bumped st).nums.next ≡ true
   bump_held =
@@ -232,5 +232,5 @@ module _ (l : List ℕ) (st : State) (s : Sound l st) where
         sum =
             split_eq st.nums.held_len 0
             (λ none. omega (arith, ap total (views_none (flushed st) none (flushed st).counts)))
-            (λ some. let b = bump_sum in omega (arith, (bump_nums st).1, ap total (views_flush st some z s.bounded.held-few)));
+            (λ some. let b = bump_sum in omega (arith, (bump_nums st).1, ap total (views_flush st some z s.bounded.held_few)));
       }

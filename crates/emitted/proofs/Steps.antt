@@ -280,7 +280,7 @@ module _ (l : List ℕ) (real : Real l) (keep : Bool) (st : State) (s : Sound l 
     unfolding total
     flush_some =
         let f = flush_nums in
-        let v = views_flush st some s.sized s.bounded.held-few in
+        let v = views_flush st some s.sized s.bounded.held_few in
         loud l keep st (white_words l st) (flushed st) front front_real
         (some_pending (wait_of (flushed st)) flush_rest
         ∙ ap (λ (xs : List ℕ). front ++ xs) (sym

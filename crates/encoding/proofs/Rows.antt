@@ -153,7 +153,7 @@ module _ (a b v e : ℕ) (t : Two a b v e) where
 
   two_row : encode_of v ≡ a ∷ b ∷ []
   two_row =
-      let u = tail_inv b t.tail-b in
+      let u = tail_inv b t.tail_b in
       let pa : 0xc0 + v / 64 ≡ a = omega arith in
       let pb : tail_of v ≡ b = omega arith in
       encode_2 v (omega arith) (omega arith) ∙ rw (pa, pb)
@@ -177,7 +177,7 @@ module _ (a b c v e : ℕ) (t : Three a b c v e) where
       let d = sum_3 v (a % 16) (b % 64) (c % 64) (omega arith) (omega arith) t.value in
       let pa = top_3 a (v / 4096) t.low t.high d.0 in
       let pb = tail_is b (v / 64) (second_tail a b t.fits) d.1 in
-      let pc = tail_is c v t.tail-c d.2 in
+      let pc = tail_is c v t.tail_c d.2 in
       encode_3 v (three_low a b c v e t) (omega arith) three_scalar ∙ rw (pa, pb, pc)
 
 module _ (a b c d v e : ℕ) (t : Four a b c d v e) where
@@ -193,8 +193,8 @@ module _ (a b c d v e : ℕ) (t : Four a b c d v e) where
       let s = sum_4 v (a % 8) (b % 64) (c % 64) (d % 64) (omega arith) (omega arith) (omega arith) t.value in
       let pa = top_4 a (v / 262144) t.low t.high s.0 in
       let pb = tail_is b (v / 4096) (second_tail a b t.fits) s.1 in
-      let pc = tail_is c (v / 64) t.tail-c s.2 in
-      let pd = tail_is d v t.tail-d s.3 in
+      let pc = tail_is c (v / 64) t.tail_c s.2 in
+      let pd = tail_is d v t.tail_d s.3 in
       encode_4 v (four_low a b c d v e t) four_scalar ∙ rw (pa, pb, pc, pd)
 
 -- the scalar of a sequence, and its bytes

@@ -1,4 +1,6 @@
 // A scalar as UTF-8 by RFC 3629: 1 to 4 bytes, none for a number that is no scalar. Proved to undo decoding and to be undone by it.
+#![tactic(auto)]
+
 ghost use Rattle.std.specs.Prelude.{◌≡◌};
 ghost use Rattle.encoding.specs.Encode.{encoded_of, is_scalar, tail_of};
 

@@ -1,4 +1,6 @@
 // What a backslash and the scalars after it give. The names and the order are those of the Rust's unescape.rs.
+#![tactic(auto)]
+
 ghost use Rattle.std.specs.Prelude.{◌<◌, ◌≡◌, false};
 ghost use Rattle.escapes.specs.Escapes.{byte_escape, char_escape, close_of, digits_of, hex_of, hex_second, line_end, low_only, only_in_template, shared_of, shift_in, skip_white, unicode_of};
 ghost use Rattle.text.specs.Utf8.{rest};

@@ -1,5 +1,7 @@
 // What a source has that its writer would want to know, five words each (code, start, end, and the stretch from, to), in a lent store; later
 // words keep their content. Equal to specs/, on every source, reading and store.
+#![tactic(auto)]
+
 pub mod code;
 mod store;
 mod walk;

@@ -1,4 +1,6 @@
 // The forms of a body, and what a scalar of one begins: an item, nothing, or a fault. Proved equal to the definitions in specs/.
+#![tactic(auto)]
+
 ghost use Rattle.std.specs.Prelude.{◌≡◌};
 ghost use Rattle.items.specs.Items.{is_bytes, is_single, is_template, item_of};
 ghost use Rattle.text.specs.Utf8.{rest};

@@ -1,4 +1,6 @@
 // The token of a source at a position: the shebang at 0, the source's end in refusal 12's span, and the tests before reading. Equal to specs/, on every slice and position.
+#![tactic(auto)]
+
 ghost use Rattle.std.specs.Prelude.{◌≡◌};
 ghost use Rattle.lexer.specs.Next.{close_span, is_shebang, next_at, past_start_at, read_at};
 ghost use Rattle.text.specs.Utf8.{rest};

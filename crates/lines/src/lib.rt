@@ -1,5 +1,7 @@
 // The lister's lines, each put to the front of 64 lent bytes, of which the longest takes 61.
 // What a call leaves there, and its answer, the line's length, are proved equal to the definitions in specs/.
+#![tactic(auto)]
+
 ghost use Rattle.std.specs.Prelude.{◌+◌, ◌≤◌, ◌≡◌, length};
 ghost use Rattle.std.proofs.lemmas.List.Edits.{sets};
 ghost use Rattle.lines.specs.Lines.{Counted, Puts, decimal_of, end_line, refused_line, token_line};

@@ -1,4 +1,6 @@
 // Document 01's lister: the tokens of standard input, a line each, then what ended them. Comments end as in rune unless `--comments first` is asked.
+#![tactic(auto)]
+
 use buffer::Filled;
 use readers::{Chosen, Reading};
 

@@ -1,4 +1,6 @@
 // The tokens of a source, three words each (kind, start, end), in a lent store; later words keep their content.
+#![tactic(auto)]
+
 ghost use Rattle.std.specs.Prelude.{◌+◌, ◌≤◌, ◌≡◌, length, set};
 ghost use Rattle.std.proofs.lemmas.List.Edits.{sets};
 ghost use Rattle.families.specs.Tokens.{tokens_at};

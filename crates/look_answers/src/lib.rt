@@ -1,4 +1,6 @@
 // What a call of the lookahead answers, in numbers, for callers in other languages.
+#![tactic(auto)]
+
 ghost use Rattle.std.specs.Prelude.{◌≡◌};
 ghost use Rattle.look_answers.specs.Told.{number_told, words_told};
 

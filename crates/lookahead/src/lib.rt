@@ -1,5 +1,7 @@
 // The parser's lookahead buffer over a lent token list: each call changes the lent state where it stands. Unless `tested` is 0 the caller tested
 // the list before, by `rows::check_list`, and the state is one that a call left: then neither is tested again.
+#![tactic(auto)]
+
 ghost use Rattle.std.specs.Prelude.{◌≡◌, length};
 ghost use Rattle.std.proofs.lemmas.List.Edits.{sets};
 ghost use Rattle.ahead.specs.View.{view_of};

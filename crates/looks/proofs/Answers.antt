@@ -25,7 +25,7 @@ abbrev Ready : List ℕ → ℕ → Nums → Type 0
 Ready l times m = (m.next ≤ token_count l) × Roomy m × (m.held_len + times ≤ 8) × (m.wait_len ≤ 256)
 
 pub ready_for : (l : List ℕ) (m : Nums) (most times : ℕ) → Bounded l m → most ≤ 8 → times ≡ most - m.held_len → Ready l times m
-ready_for l m most times b h e = (b.reach, record { held_in = b.held_in; wait-in = b.wait-in; held-few = b.held-few; wait-few = omega arith }, omega arith, b.wait-few)
+ready_for l m most times b h e = (b.reach, record { held_in = b.held_in; wait-in = b.wait_in; held-few = b.held_few; wait-few = omega arith }, omega arith, b.wait_few)
 
 pub gather_ready : (l : List ℕ) (m : Nums) (most times : ℕ) → Bounded l m → most ≤ 8 → times ≡ most - m.held_len → fits_for l (most - m.held_len) m ≡ true → Gatherable l times m
 gather_ready l m most times b h e f =
@@ -42,7 +42,7 @@ module _ (t : ℕ) (l : List ℕ) (n : ℕ) (st : State) where
     pub refusal_held : n < st.nums.held_len → 0 ≡ fill_refusal t l n st
     unfolding fill_refusal fits_for
     refusal_held h =
-        let few = (sound_bounded t l st s).held-few in
+        let few = (sound_bounded t l st s).held_few in
         let e : n + 1 - st.nums.held_len ≡ 0 = omega arith in
         rw (s, le-leb n 7 (omega arith), e)
 

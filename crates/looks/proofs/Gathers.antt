@@ -40,7 +40,7 @@ module _ (p count : ℕ) (m : Nums) where
 
   pub gather_roomy : Roomy m → m.held_len < 8 → (gather_to p count m).wait_len ≤ 1099511627776 → Roomy (gather_to p count m)
   unfolding gather_to
-  gather_roomy r h w = let k = gather_held.0 in record { held_in = r.held_in; wait-in = r.wait-in; held-few = omega arith; wait-few = w }
+  gather_roomy r h w = let k = gather_held.0 in record { held_in = r.held_in; wait-in = r.wait_in; held-few = omega arith; wait-few = w }
 
 pub queued_more : (ring : List ℕ) (at i count j : ℕ) → j < count → queued (count - j) ring (at + j) (i + j) ≡ queued (count - (j + 1)) (set ring ((at + j) % 256) (i + j)) (at + (j + 1)) (i + (j + 1))
 unfolding queued

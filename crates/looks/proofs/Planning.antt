@@ -42,7 +42,7 @@ Turns l kind held counts m₀ m count = (w : List ℕ) → Turning l kind held c
 pub turning_first : (l : List ℕ) (kind : ℕ) (held counts : List ℕ) (m : Nums) → Plannable l m held counts → (w : List ℕ) → Turning l kind held counts (state_of m held counts w) m 0
 turning_first l kind held counts m b w =
     let c = count_bound l in
-    let f = b.held-few in
+    let f = b.held_few in
     record {
       real = state_of m held counts w;
       is = refl;
@@ -56,7 +56,7 @@ turning_first l kind held counts m b w =
     }
 
 pub plannable_roomy : (l : List ℕ) (m : Nums) (held counts : List ℕ) → Plannable l m held counts → Roomy m
-plannable_roomy l m held counts b = record { held_in = b.held_in; wait-in = b.wait-in; held-few = b.held-few; wait-few = let w = b.wait-few in omega arith }
+plannable_roomy l m held counts b = record { held_in = b.held_in; wait-in = b.wait_in; held-few = b.held_few; wait-few = let w = b.wait_few in omega arith }
 
 module _ (l : List ℕ) (kind : ℕ) (held counts : List ℕ) (m : Nums) (b : Plannable l m held counts)
     (white : ℕ) (words : List ℕ) (fr : Fronted l m held counts white words) (f : Nums) (fn : f ≡ fill_nums l m) where
@@ -152,7 +152,7 @@ module _ (l : List ℕ) (kind : ℕ) (held counts : List ℕ) (m : Nums) (b : Pl
         let a = facts.1 in
         let w = facts.2 in
         let v = rest.1 in
-        let hf = b.held-few in
+        let hf = b.held_few in
         record {
           reach = fewer.1;
           held-few =
@@ -186,7 +186,7 @@ module _ (l : List ℕ) (kind : ℕ) (held counts : List ℕ) (m : Nums) (b : Pl
     nums_real = fill_nums_law l t.real ∙ ap (fill_nums l) t.is ∙ sym fn
 
     fits_real : fits l 0 t.real.nums ≡ leb f.wait_len 256
-    fits_real = ap (fits l 0) t.is ∙ fits_front l m b.wait-few ∙ ap (λ (x : Nums). leb x.wait_len 256) (sym fn)
+    fits_real = ap (fits l 0) t.is ∙ fits_front l m b.wait_few ∙ ap (λ (x : Nums). leb x.wait_len 256) (sym fn)
 
     goes_real : goes_on l kind filled.nums filled.held ≡ both (ltb 0 f.held_len) (eqb (get_or words 0 0) kind)
     goes_real = ap₂ (λ (n : Nums) (ws : List ℕ). both (ltb 0 n.held_len) (eqb (get_or ws 0 0) kind)) nums_real (sym front_real.1)

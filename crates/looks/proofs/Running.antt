@@ -36,10 +36,10 @@ good_sound t l st s h c =
     let b = sound_bounded t l st s in
     record {
       reach = b.reach;
-      held-few = b.held-few;
-      wait-few = b.wait-few;
+      held-few = b.held_few;
+      wait-few = b.wait_few;
       held_in = b.held_in;
-      wait-in = b.wait-in;
+      wait-in = b.wait_in;
       held-size = h;
       counts-size = c;
       sum = sound_sum t l st s;
@@ -73,10 +73,10 @@ module _ (l : List ℕ) (st : State) (b : Steady l st) where
   pub good_fill : fits l 0 m₁ ≡ true → Steady l (fill l 0 st)
   unfolding gather_to gather_at count_sum
   good_fill fit =
-      let wide = leb-true (fill_nums l m₁).wait_len 256 (sym (fits_front l m₁ b.wait-few) ∙ fit) in
+      let wide = leb-true (fill_nums l m₁).wait_len 256 (sym (fits_front l m₁ b.wait_few) ∙ fit) in
       let wide₂ = ap (λ (n : Nums). n.wait_len) (fill_nums_law l st) in
       let d = dark_bound l m₁.next b.reach in
-      let sizes = fill_sizes l st b.held-size b.counts-size in
+      let sizes = fill_sizes l st b.held_size b.counts_size in
       split_eq m₁.held_len 0
       (λ none.
       let e = gathered none in
@@ -85,7 +85,7 @@ module _ (l : List ℕ) (st : State) (b : Steady l st) where
       let x = ap (λ (n : Nums). n.held_len) e in
       let y = ap (λ (n : Nums). n.next) e in
       let hi = b.held_in in
-      let wi = b.wait-in in
+      let wi = b.wait_in in
       record {
         reach = omega (arith, g.1 d.1);
         held-few = omega (arith, g.0);
@@ -109,7 +109,7 @@ module _ (l : List ℕ) (st : State) (b : Steady l st) where
             let w = ap (λ (n : Nums). n.wait_len) e in
             let c = ap₂ (λ (n q : ℕ). count_sum (fill l 0 st).counts n q) k a in
             let slot : (m₁.held_at + m₁.held_len) % 8 ≡ m₁.held_at % 8 = ap (λ (n : ℕ). (m₁.held_at + n) % 8) none ∙ (let q : (m₁.held_at + 0) % 8 ≡ m₁.held_at % 8 = omega arith in q) in
-            let in₁ : m₁.held_at % 8 < length st.counts = let q = b.counts-size in omega arith in
+            let in₁ : m₁.held_at % 8 < length st.counts = let q = b.counts_size in omega arith in
             let v : get_or (fill l 0 st).counts (m₁.held_at % 8) 0 ≡ white_to p₁ m₁ = ap (λ (q : State). get_or q.counts (m₁.held_at % 8) 0) s ∙ rw (z, slot) (get_or-set_same st.counts (m₁.held_at % 8) (white_to p₁ m₁) 0 in₁) in
             omega arith);
       })
@@ -150,7 +150,7 @@ module _ (l : List ℕ) (kind : ℕ) (run : Run) (out₀ out : List ℕ) (f : St
       run_ends (suc n) = rw g
 
 pub good_bounded : (l : List ℕ) (m : Nums) (held counts : List ℕ) → Plannable l m held counts → Bounded l m
-good_bounded l m held counts b = record { held-few = b.held-few; wait-few = b.wait-few; held_in = b.held_in; wait-in = b.wait-in; reach = b.reach }
+good_bounded l m held counts b = record { held-few = b.held_few; wait-few = b.wait_few; held_in = b.held_in; wait-in = b.wait_in; reach = b.reach }
 
 pub goes_some : (l : List ℕ) (kind : ℕ) (m : Nums) (held : List ℕ) → goes_on l kind m held ≡ true → m.held_len ≡ 0 → ⊥
 goes_some l kind m held g e = let h = ltb-true 0 m.held_len (both_inv (ltb 0 m.held_len) _ g).0 in omega arith
@@ -169,10 +169,10 @@ module _ (l : List ℕ) (kind : ℕ) (f : State) (b : Steady l f) (some : f.nums
   now_few = turn_few l kind f.held f.counts f.nums b (white_of f) (nth_of l 0 f) front_now f.nums nums_now
 
   pub now_fewer : tokens_left l (bumped f).nums < tokens_left l f.nums
-  now_fewer = (fewer l kind f.held f.counts f.nums b (white_of f) (nth_of l 0 f) front_now f.nums nums_now b.wait-few some).0
+  now_fewer = (fewer l kind f.held f.counts f.nums b (white_of f) (nth_of l 0 f) front_now f.nums nums_now b.wait_few some).0
 
   pub good_bump : Steady l (bumped f)
-  good_bump = plannable_after l kind f.held f.counts f.nums b (white_of f) (nth_of l 0 f) front_now f.nums nums_now b.wait-few some
+  good_bump = plannable_after l kind f.held f.counts f.nums b (white_of f) (nth_of l 0 f) front_now f.nums nums_now b.wait_few some
 
   pub white_now : (white : ℕ) → white ≡ ring_at 8 f.counts f.nums.held_at 0 → white ≡ white_of f
   unfolding front_white

@@ -1,4 +1,6 @@
 // The calls of the lookahead buffer, over the state's arrays where they lie.
+#![tactic(auto)]
+
 mod emit;
 pub mod emits;
 mod fill;

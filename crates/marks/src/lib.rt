@@ -1,4 +1,6 @@
 // Which tokens have an inside, and the lengths of the marks that stay before and after it, by kind.
+#![tactic(auto)]
+
 ghost use Rattle.std.specs.Prelude.{◌≡◌, length};
 ghost use Rattle.marks.specs.Marks.{close_mark, open_mark};
 ghost use Rattle.marks.specs.Shut.{is_shut};

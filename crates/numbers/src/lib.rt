@@ -1,4 +1,6 @@
 // The number that is a kind's outside form. Its laws (`Inverse`) say that it and `kinds::kind_of` are inverse wherever a number has one kind.
+#![tactic(auto)]
+
 ghost use Rattle.std.specs.Prelude.{◌≡◌};
 ghost use Rattle.numbers.specs.Kinds.{number_of};
 

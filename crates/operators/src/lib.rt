@@ -1,4 +1,6 @@
 // Operators: branches on the first scalar, then the second; a third is always `=`.
+#![tactic(auto)]
+
 ghost use Rattle.std.specs.Prelude.{◌≡◌, eqb};
 ghost use Rattle.laws.specs.Bools.{pick};
 ghost use Rattle.operators.specs.Operators.{find_one, look_one, look_three, look_two, ones, operator_of, threes, twos};

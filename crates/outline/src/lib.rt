@@ -1,4 +1,6 @@
 // A source with x over every byte inside its strings, byte strings, comments and templates, in a lent buffer. One pass, each token read once.
+#![tactic(auto)]
+
 ghost use Rattle.std.specs.Prelude.{◌≤◌, ◌≡◌, [], leb, ltb, length};
 ghost use Rattle.std.proofs.lemmas.List.Edits.{sets};
 ghost use Rattle.std.proofs.Math.Seq.{slice};

@@ -1,5 +1,7 @@
 // Demand 3 run beside its proof: random sources over tricky characters, and damaged copies of the rule files on standard input, are
 // outlined twice and listed, and what the theorems say is tested on each.
+#![tactic(auto)]
+
 mod sources;
 
 ghost use Rattle.std.specs.Prelude.{◌+◌, ◌≤◌, ◌<◌};

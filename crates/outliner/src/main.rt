@@ -1,5 +1,7 @@
 // The outline of standard input on standard output; why reading stopped, if it did, on standard error. Comments end as in rune unless
 // `--comments first` is asked.
+#![tactic(auto)]
+
 use buffer::Filled;
 use outline::Outlined;
 use readers::{Chosen, Reading};

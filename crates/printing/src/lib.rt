@@ -1,5 +1,7 @@
 // Document 01's lister: `KIND START END` a token, then `refused NO START END` or `end COUNT`; token by token, without a store.
 // Every function here is safe and ends, and each line is made by `lines`, which promises its bytes. What reaches standard output no contract can say: runs show it.
+#![tactic(auto)]
+
 use buffer::put_bytes;
 use readers::Reading;
 use source_test::Tested;

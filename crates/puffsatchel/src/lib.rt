@@ -1,5 +1,7 @@
 // The calls for C and Rust that read a source (include/puffsatchel.h): the result is a refusal's number, 0 where there is none, and the rest of the answer goes to
 // five lent words. Each equals the definition of the call below it, on every input; none keeps or allocates memory.
+#![tactic(auto)]
+
 ghost use Rattle.std.specs.Prelude.{◌≡◌};
 ghost use Rattle.puffsatchel.specs.Calls.{findings_leaves, findings_tells, list_leaves, list_tells, next_tells, outline_leaves, outline_tells, read_tells, test_tells, version};
 

@@ -1,4 +1,6 @@
 // The calls for C and Rust that read a body or store a list (include/puffsatchel.h), by the same convention as those of `puffsatchel`.
+#![tactic(auto)]
+
 ghost use Rattle.std.specs.Prelude.{◌≡◌};
 ghost use Rattle.puffsatchel_bytes.specs.Calls.{load_leaves, load_tells, store_leaves, store_tells, unescape_leaves, unescape_tells};
 

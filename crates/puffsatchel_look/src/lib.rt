@@ -1,5 +1,7 @@
 // The lookahead's calls for C and Rust (include/puffsatchel.h): the result is a refusal's number, 0 where there is none, and the rest of the
 // answer goes to five lent words. The state is lent and changed where it stands; whatever bytes it holds, each call answers.
+#![tactic(auto)]
+
 ghost use Rattle.std.specs.Prelude.{◌≡◌, length};
 ghost use Rattle.std.proofs.lemmas.List.Edits.{sets};
 ghost use Rattle.ahead.specs.View.{view_of};

@@ -1,4 +1,6 @@
 // Tokens told by their bytes, without the readers: a number and an end where that is certain, and else nothing.
+#![tactic(auto)]
+
 mod operator;
 mod tokens;
 

@@ -1,4 +1,6 @@
 // White space, lines and comments, each total on every slice and place. The rule of every reader of document 01 stands in specs/.
+#![tactic(auto)]
+
 mod comments;
 mod number;
 mod reading;

@@ -1,6 +1,8 @@
 // Answers framed inputs as rust/oracle does, so that our answers can be compared with the Rust's: mode `L`, a source to list.
 // What it must print is what the Rust answered, and of numbers what tests/numbers.py says: `stdin` and `stdout` are rust/recorded/list.frames and
 // list.answers, with numbers.frames and numbers.answers after them.
+#![tactic(auto)]
+
 ghost use Rattle.std.specs.Prelude.{◌≤◌, ◌<◌};
 
 use readers::{Comments, Reading};

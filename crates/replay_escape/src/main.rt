@@ -1,5 +1,7 @@
 // Reads framed bodies and prints what `unescape` answers, in the form of rust/oracle. What it must print is what the Rust printed.
 // A frame is a mode byte, a length as a little-endian u32, and that many bytes. What is no whole frame ends the run.
+#![tactic(auto)]
+
 ghost use Rattle.std.specs.Prelude.{◌<◌};
 
 use buffer::page;

@@ -1,5 +1,7 @@
 // Reads framed lookahead scripts and prints what the lookahead's calls answer, in the form of rust/oracle, mode `a`. What it must
 // print is what the Rust printed: `stdin` and `stdout` are rust/recorded/look.frames and look.answers.
+#![tactic(auto)]
+
 mod calls;
 mod lines;
 

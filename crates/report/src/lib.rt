@@ -1,5 +1,7 @@
 // Findings and refusals for a person to read, or for a script: the text of each with its source lines, or one JSON object.
 // Every function here is safe and ends. What reaches standard output no contract can say: runs show it.
+#![tactic(auto)]
+
 mod comment;
 mod drawing;
 mod finding;

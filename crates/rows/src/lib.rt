@@ -1,4 +1,6 @@
 // A token list row by row: its first refusal, proved equal to the definition, and the answer of what writes or reads it.
+#![tactic(auto)]
+
 ghost use Rattle.std.specs.Prelude.{◌≡◌};
 ghost use Rattle.rows.specs.Rows.{list_check, record_check};
 ghost use Rattle.rows.specs.declared.Checked.TheVariants.{Faulty};

@@ -1,4 +1,6 @@
 // Fast ways through a body: runs of bytes that stand for themselves, and escapes of two bytes by value. Proved equal to the definitions in specs/.
+#![tactic(auto)]
+
 ghost use Rattle.std.specs.Prelude.{◌+◌, ◌≡◌, drop, length};
 ghost use Rattle.runs.specs.Runs.{ascii_of, bare_of, begins_of, escaped_at, limit_of, plain_end, short_of};
 ghost use Rattle.text.specs.Utf8.{rest};

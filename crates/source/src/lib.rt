@@ -1,4 +1,6 @@
 // A thin reader that holds the source and a place in it, as the Rust's SourceIter does, over functions on a slice and a number.
+#![tactic(auto)]
+
 ghost use Rattle.std.specs.Prelude.{◌≡◌};
 ghost use Rattle.source.specs.Reader.{moved_of, new_of, next_scalar_of, peek2_of, peek_of, pos_of, step_at};
 

@@ -46,9 +46,9 @@ module _ (s : List ℕ) (p v n : ℕ) (t : Step s p v n) where
       let w = whole_at.1.1 in
       let q = whole_at.1.0 in
       let few = w.few in
-      split_eq at (p + 1) (λ i. subst (λ (x : ℕ). tail (get_or s x 0) ≡ true) (sym i) (w.tail-b (omega arith)))
-      (λ i. split_eq at (p + 2) (λ j. subst (λ (x : ℕ). tail (get_or s x 0) ≡ true) (sym j) (w.tail-c (omega arith)))
-      (λ j. let m : at ≡ p + 3 = omega arith in subst (λ (x : ℕ). tail (get_or s x 0) ≡ true) (sym m) (w.tail-d (omega arith))))
+      split_eq at (p + 1) (λ i. subst (λ (x : ℕ). tail (get_or s x 0) ≡ true) (sym i) (w.tail_b (omega arith)))
+      (λ i. split_eq at (p + 2) (λ j. subst (λ (x : ℕ). tail (get_or s x 0) ≡ true) (sym j) (w.tail_c (omega arith)))
+      (λ j. let m : at ≡ p + 3 = omega arith in subst (λ (x : ℕ). tail (get_or s x 0) ≡ true) (sym m) (w.tail_d (omega arith))))
 
 boundary_end : (s : List ℕ) (at : ℕ) → length s ≤ at → boundary s at ≡ eqb (length s) at
 unfolding boundary

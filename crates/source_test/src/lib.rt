@@ -1,4 +1,6 @@
 // The tests that come before reading: 1 over-long, 2 ill-formed, 4 no place. The test of UTF-8 goes by blocks of 64 bytes.
+#![tactic(auto)]
+
 ghost use Rattle.std.specs.Prelude.{◌+◌, ◌≤◌, ◌<◌, ◌≡◌, get_or, length};
 ghost use Rattle.source_test.specs.Blocks.{AtMost, Passed, len_of};
 ghost use Rattle.source_test.specs.Source.{boundary, position_test, sound_to, source_test};

@@ -1,4 +1,6 @@
 // The stored token list: the writer and the reader.
+#![tactic(auto)]
+
 mod reader;
 mod writer;
 

@@ -1,4 +1,6 @@
 // Bytes, strings and byte strings, from after their opening on.
+#![tactic(auto)]
+
 ghost use Rattle.std.specs.Prelude.{◌≡◌};
 ghost use Rattle.readers.specs.Readers.{byte_of, str_kind, str_number, str_of};
 ghost use Rattle.text.specs.Utf8.{rest, width};

@@ -1,4 +1,6 @@
 // The token reader and the template reader, which call each other with the remaining depth falling.
+#![tactic(auto)]
+
 ghost use Rattle.std.specs.Prelude.{◌≡◌};
 ghost use Rattle.readers.specs.Rules.{rules_of};
 ghost use Rattle.templates.specs.Body.{template_of, token_of};

@@ -38,9 +38,9 @@ first_whole (a ∷ t) v e h =
     let few = f.few in (
       f.wide,
       split_eq e 0 (λ z. omega arith)
-          (λ z. split_eq e 1 (λ y. omega (arith, tail_there t 0 (f.tail-b (omega arith))))
-          (λ y. split_eq e 2 (λ x. omega (arith, tail_there t 1 (f.tail-c (omega arith))))
-          (λ x. omega (arith, tail_there t 2 (f.tail-d (omega arith)))))),
+          (λ z. split_eq e 1 (λ y. omega (arith, tail_there t 0 (f.tail_b (omega arith))))
+          (λ y. split_eq e 2 (λ x. omega (arith, tail_there t 1 (f.tail_c (omega arith))))
+          (λ x. omega (arith, tail_there t 2 (f.tail_d (omega arith)))))),
     )
 
 from_skip : (k : ℕ) (s : List ℕ) → from k s ≡ from 0 (drop k s)

@@ -1,4 +1,6 @@
 // UTF-8 by RFC 3629, over byte slices: every call is total, writes nothing and equals its definition in specs/.
+#![tactic(auto)]
+
 pub mod character;
 mod utf8;
 

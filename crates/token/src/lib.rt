@@ -1,4 +1,6 @@
 // The vocabulary of tokens: kinds with their data, spans, answers, and the numbers of refusals. What a kind's number is stands in `numbers`.
+#![tactic(auto)]
+
 mod kind;
 mod read;
 pub mod refusal;

@@ -1,4 +1,6 @@
 // Escapes, and a whole body read into lent bytes: total, and proved equal to the definitions in specs/.
+#![tactic(auto)]
+
 mod body;
 mod long;
 

@@ -1,5 +1,7 @@
 // Walks the classes of document 01 over all scalars and far past them, and prints each run of members: the class, first and last in hex.
 // A line with the number of members ends a class. bin/unicode-classes prints the same from the published Unicode files.
+#![tactic(auto)]
+
 ghost use Rattle.std.specs.Prelude.{◌+◌, ◌≤◌};
 
 #[derive(Drop)]

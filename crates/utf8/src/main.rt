@@ -1,5 +1,7 @@
 // Runs the test of a source over short byte sequences and prints a line for each first byte: `BYTE GOOD SUM`.
 // What it must print is what Rust's core::str::from_utf8 gave for the same sequences in the same order; rust/utf8-verdicts wrote that down.
+#![tactic(auto)]
+
 use source_test::Tested;
 
 // What the later bytes of a sequence of four run over: the ends of the ranges of RFC 3629, section 4, and their neighbours.

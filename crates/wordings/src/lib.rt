@@ -1,5 +1,7 @@
 // What the refusals of a source and the findings are called, mean and ask for; 160 and 161 are the findings 60 and 61 of a template.
 // Written by tools/texts.py from texts.txt: change that table. Every function is safe and ends; what it puts no contract says.
+#![tactic(auto)]
+
 use buffer::page::{Page, put_label};
 
 // The row of a number in the texts below.

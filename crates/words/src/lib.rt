@@ -1,4 +1,6 @@
 // Words and numbers, from after their first scalar on.
+#![tactic(auto)]
+
 mod ident;
 mod number;
 

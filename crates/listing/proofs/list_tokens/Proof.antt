@@ -24,7 +24,7 @@ quick-token-requires : tie.Need-quick-token-requires invariant-loop decreases-lo
 quick-token-requires c κs = search rules
 
 sub-if2 : tie.Need-overflow-sub-if2 invariant-loop decreases-loop
-sub-if2 c = c.before.before.before.loop.invariant.in-store
+sub-if2 c = c.before.before.before.loop.invariant.in_store
 
 no-room-requires : tie.Need-no-room-requires invariant-loop decreases-loop
 no-room-requires c κs = search rules
@@ -75,7 +75,7 @@ returns-3 : tie.Need-returns-3 invariant-loop decreases-loop
 returns-3 c = list_fin c.before.before.before.before.before.before.before.before.before.before.before.before.args.reading c.before.before.before.before.before.before.before.before.before.before.before.before.args.s.now c.before.before.before.before.before.before.before.before.before.before.before.before.args.store.now c.before.before.before.before.before.before.before.before.before.loop.store c.before.before.before.before.before.before.before.before.before.loop.at c.before.before.before.before.before.before.before.before.before.loop.n c.before.before.before.before.before.before.before.before.before.loop.count c.before.before.before.before.before.before.before.before.before.loop.invariant c.before.before.before.before.before.next-token.result c.before.before.before.before.before.next-token.ensures c.before.before.before.answer.given.0.0 c.before.before.before.answer.given.1 c.if3.true
 
 sub-if4 : tie.Need-overflow-sub-if4 invariant-loop decreases-loop
-sub-if4 c = c.before.before.before.before.before.before.before.before.before.loop.invariant.in-store
+sub-if4 c = c.before.before.before.before.before.before.before.before.before.loop.invariant.in_store
 
 no-room-requires-2 : tie.Need-no-room-requires-2 invariant-loop decreases-loop
 no-room-requires-2 c κs = search rules

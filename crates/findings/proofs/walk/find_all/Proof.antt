@@ -22,7 +22,7 @@ enum-known-words : tie.Need-enum-known-words
 enum-known-words c = search rules
 
 find-tokens-requires : tie.Need-find-tokens-requires
-find-tokens-requires c κs = (c.before.before.before.before.before.before.before.before.before.before.before.requires, (all_went c.before.before.before.before.before.before.before.before.before.before.before.args.reading c.before.before.before.before.before.before.before.before.before.before.before.args.s.now c.before.before.before.before.before.before.before.before.before.before.before.args.store.now c.before.before.before.before.before.before.before.mark.result c.before.before.before.before.before.before.before.mark.ensures _ c.before.before.before.before.before.before.note.result c.before.before.before.before.before.before.note.ensures c.before.before.words.given.0.0 c.before.before.words.given.0.1.0 c.before.before.words.given.1).in-store, (all_went c.before.before.before.before.before.before.before.before.before.before.before.args.reading c.before.before.before.before.before.before.before.before.before.before.before.args.s.now c.before.before.before.before.before.before.before.before.before.before.before.args.store.now c.before.before.before.before.before.before.before.mark.result c.before.before.before.before.before.before.before.mark.ensures _ c.before.before.before.before.before.before.note.result c.before.before.before.before.before.before.note.ensures c.before.before.words.given.0.0 c.before.before.words.given.0.1.0 c.before.before.words.given.1).few)
+find-tokens-requires c κs = (c.before.before.before.before.before.before.before.before.before.before.before.requires, (all_went c.before.before.before.before.before.before.before.before.before.before.before.args.reading c.before.before.before.before.before.before.before.before.before.before.before.args.s.now c.before.before.before.before.before.before.before.before.before.before.before.args.store.now c.before.before.before.before.before.before.before.mark.result c.before.before.before.before.before.before.before.mark.ensures _ c.before.before.before.before.before.before.note.result c.before.before.before.before.before.before.note.ensures c.before.before.words.given.0.0 c.before.before.words.given.0.1.0 c.before.before.words.given.1).in_store, (all_went c.before.before.before.before.before.before.before.before.before.before.before.args.reading c.before.before.before.before.before.before.before.before.before.before.before.args.s.now c.before.before.before.before.before.before.before.before.before.before.before.args.store.now c.before.before.before.before.before.before.before.mark.result c.before.before.before.before.before.before.before.mark.ensures _ c.before.before.before.before.before.before.note.result c.before.before.before.before.before.before.note.ensures c.before.before.words.given.0.0 c.before.before.words.given.0.1.0 c.before.before.words.given.1).few)
 
 same_length : tie.Need-same-length
 same_length c = search rules

@@ -47,7 +47,7 @@ across-requires : tie.Need-across-requires invariant-loop decreases-loop
 across-requires c κs = search rules
 
 note-requires : tie.Need-note-requires invariant-loop decreases-loop
-note-requires c κs = (c.before.before.before.before.before.before.loop.invariant.left.in-store, c.before.before.before.before.before.before.loop.invariant.left.few, subst AllSmall (sym c.across.ensures) (turn_small c.before.before.before.before.before.before.before.before.before.before.before.args.reading c.before.before.before.before.before.before.before.before.before.before.before.args.s.now c.before.before.before.before.before.before.before.before.before.before.before.args.store.now c.before.before.before.before.before.before.before.before.before.before.before.args.words c.before.before.before.before.before.before.before.before.before.before.before.args.found c.before.before.before.before.before.before.loop.store c.before.before.before.before.before.before.loop.n c.before.before.before.before.before.before.loop.count c.before.before.before.before.before.before.loop.at c.before.before.before.before.before.before.loop.under.place c.before.before.before.before.before.before.loop.under.read c.before.before.before.before.before.before.loop.invariant c.before.before.before.before.before.next2.result c.before.before.before.before.before.next2.ensures (λ z. c.before.before.before.if1.false (c.before.before.before.before.reached.ensures ∙ z)) c.before.before.onward.result.place c.before.before.onward.result.read c.before.before.onward.ensures.0 c.before.before.onward.ensures.1 c.before.before.onward.ensures.2 c.before.before.before.before.before.before.before.before.before.before.before.requires.0))
+note-requires c κs = (c.before.before.before.before.before.before.loop.invariant.left.in_store, c.before.before.before.before.before.before.loop.invariant.left.few, subst AllSmall (sym c.across.ensures) (turn_small c.before.before.before.before.before.before.before.before.before.before.before.args.reading c.before.before.before.before.before.before.before.before.before.before.before.args.s.now c.before.before.before.before.before.before.before.before.before.before.before.args.store.now c.before.before.before.before.before.before.before.before.before.before.before.args.words c.before.before.before.before.before.before.before.before.before.before.before.args.found c.before.before.before.before.before.before.loop.store c.before.before.before.before.before.before.loop.n c.before.before.before.before.before.before.loop.count c.before.before.before.before.before.before.loop.at c.before.before.before.before.before.before.loop.under.place c.before.before.before.before.before.before.loop.under.read c.before.before.before.before.before.before.loop.invariant c.before.before.before.before.before.next2.result c.before.before.before.before.before.next2.ensures (λ z. c.before.before.before.if1.false (c.before.before.before.before.reached.ensures ∙ z)) c.before.before.onward.result.place c.before.before.onward.result.read c.before.before.onward.ensures.0 c.before.before.onward.ensures.1 c.before.before.onward.ensures.2 c.before.before.before.before.before.before.before.before.before.before.before.requires.0))
 
 enum-known-listed : tie.Need-enum-known-listed invariant-loop decreases-loop
 enum-known-listed c = search rules
@@ -77,7 +77,7 @@ alone-requires : tie.Need-alone-requires invariant-loop decreases-loop
 alone-requires c κs = search rules
 
 note-requires-2 : tie.Need-note-requires-2 invariant-loop decreases-loop
-note-requires-2 c κs = ((turn_went c.before.before.before.before.before.before.before.before.before.before.before.before.before.before.before.before.before.before.before.before.before.before.args.reading c.before.before.before.before.before.before.before.before.before.before.before.before.before.before.before.before.before.before.before.before.before.before.args.s.now c.before.before.before.before.before.before.before.before.before.before.before.before.before.before.before.before.before.before.before.before.before.before.args.store.now c.before.before.before.before.before.before.before.before.before.before.before.before.before.before.before.before.before.before.before.before.before.before.args.words c.before.before.before.before.before.before.before.before.before.before.before.before.before.before.before.before.before.before.before.before.before.before.args.found c.before.before.before.before.before.before.before.before.before.before.before.before.before.before.before.before.before.loop.store c.before.before.before.before.before.before.before.before.before.before.before.before.before.before.before.before.before.loop.n c.before.before.before.before.before.before.before.before.before.before.before.before.before.before.before.before.before.loop.count c.before.before.before.before.before.before.before.before.before.before.before.before.before.before.before.before.before.loop.at c.before.before.before.before.before.before.before.before.before.before.before.before.before.before.before.before.before.loop.under.place c.before.before.before.before.before.before.before.before.before.before.before.before.before.before.before.before.before.loop.under.read c.before.before.before.before.before.before.before.before.before.before.before.before.before.before.before.before.before.loop.invariant c.before.before.before.before.before.before.before.before.before.before.before.before.before.before.before.before.next2.result c.before.before.before.before.before.before.before.before.before.before.before.before.before.before.before.before.next2.ensures (λ z. c.before.before.before.before.before.before.before.before.before.before.before.before.before.before.if1.false (c.before.before.before.before.before.before.before.before.before.before.before.before.before.before.before.reached.ensures ∙ z)) c.before.before.before.before.before.before.before.before.before.before.before.before.before.onward.result.place c.before.before.before.before.before.before.before.before.before.before.before.before.before.onward.result.read c.before.before.before.before.before.before.before.before.before.before.before.before.before.onward.ensures.0 c.before.before.before.before.before.before.before.before.before.before.before.before.before.onward.ensures.1 c.before.before.before.before.before.before.before.before.before.before.before.before.before.onward.ensures.2 c.before.before.before.before.before.before.before.before.before.before.before.across.result c.before.before.before.before.before.before.before.before.before.before.before.across.ensures _ c.before.before.before.before.before.before.before.before.before.before.note.result c.before.before.before.before.before.before.before.before.before.before.note.ensures c.before.before.before.before.before.before.words1.given.0.0 c.before.before.before.before.before.before.words1.given.0.1.0 c.before.before.before.before.before.before.words1.given.1).in-store, (turn_went c.before.before.before.before.before.before.before.before.before.before.before.before.before.before.before.before.before.before.before.before.before.before.args.reading c.before.before.before.before.before.before.before.before.before.before.before.before.before.before.before.before.before.before.before.before.before.before.args.s.now c.before.before.before.before.before.before.before.before.before.before.before.before.before.before.before.before.before.before.before.before.before.before.args.store.now c.before.before.before.before.before.before.before.before.before.before.before.before.before.before.before.before.before.before.before.before.before.before.args.words c.before.before.before.before.before.before.before.before.before.before.before.before.before.before.before.before.before.before.before.before.before.before.args.found c.before.before.before.before.before.before.before.before.before.before.before.before.before.before.before.before.before.loop.store c.before.before.before.before.before.before.before.before.before.before.before.before.before.before.before.before.before.loop.n c.before.before.before.before.before.before.before.before.before.before.before.before.before.before.before.before.before.loop.count c.before.before.before.before.before.before.before.before.before.before.before.before.before.before.before.before.before.loop.at c.before.before.before.before.before.before.before.before.before.before.before.before.before.before.before.before.before.loop.under.place c.before.before.before.before.before.before.before.before.before.before.before.before.before.before.before.before.before.loop.under.read c.before.before.before.before.before.before.before.before.before.before.before.before.before.before.before.before.before.loop.invariant c.before.before.before.before.before.before.before.before.before.before.before.before.before.before.before.before.next2.result c.before.before.before.before.before.before.before.before.before.before.before.before.before.before.before.before.next2.ensures (λ z. c.before.before.before.before.before.before.before.before.before.before.before.before.before.before.if1.false (c.before.before.before.before.before.before.before.before.before.before.before.before.before.before.before.reached.ensures ∙ z)) c.before.before.before.before.before.before.before.before.before.before.before.before.before.onward.result.place c.before.before.before.before.before.before.before.before.before.before.before.before.before.onward.result.read c.before.before.before.before.before.before.before.before.before.before.before.before.before.onward.ensures.0 c.before.before.before.before.before.before.before.before.before.before.before.before.before.onward.ensures.1 c.before.before.before.before.before.before.before.before.before.before.before.before.before.onward.ensures.2 c.before.before.before.before.before.before.before.before.before.before.before.across.result c.before.before.before.before.before.before.before.before.before.before.before.across.ensures _ c.before.before.before.before.before.before.before.before.before.before.note.result c.before.before.before.before.before.before.before.before.before.before.note.ensures c.before.before.before.before.before.before.words1.given.0.0 c.before.before.before.before.before.before.words1.given.0.1.0 c.before.before.before.before.before.before.words1.given.1).few, subst AllSmall (sym c.alone.ensures) (turn_alone c.before.before.before.before.before.before.before.before.before.before.before.before.before.before.before.before.before.before.before.before.before.before.args.reading c.before.before.before.before.before.before.before.before.before.before.before.before.before.before.before.before.before.before.before.before.before.before.args.s.now c.before.before.before.before.before.before.before.before.before.before.before.before.before.before.before.before.before.before.before.before.before.before.args.store.now c.before.before.before.before.before.before.before.before.before.before.before.before.before.before.before.before.before.before.before.before.before.before.args.words c.before.before.before.before.before.before.before.before.before.before.before.before.before.before.before.before.before.before.before.before.before.before.args.found c.before.before.before.before.before.before.before.before.before.before.before.before.before.before.before.before.before.loop.store c.before.before.before.before.before.before.before.before.before.before.before.before.before.before.before.before.before.loop.n c.before.before.before.before.before.before.before.before.before.before.before.before.before.before.before.before.before.loop.count c.before.before.before.before.before.before.before.before.before.before.before.before.before.before.before.before.before.loop.at c.before.before.before.before.before.before.before.before.before.before.before.before.before.before.before.before.before.loop.under.place c.before.before.before.before.before.before.before.before.before.before.before.before.before.before.before.before.before.loop.under.read c.before.before.before.before.before.before.before.before.before.before.before.before.before.before.before.before.before.loop.invariant c.before.before.before.before.before.before.before.before.before.before.before.before.before.before.before.before.next2.result c.before.before.before.before.before.before.before.before.before.before.before.before.before.before.before.before.next2.ensures (λ z. c.before.before.before.before.before.before.before.before.before.before.before.before.before.before.if1.false (c.before.before.before.before.before.before.before.before.before.before.before.before.before.before.before.reached.ensures ∙ z)) c.before.before.before.before.before.before.before.before.before.before.before.before.before.onward.result.place c.before.before.before.before.before.before.before.before.before.before.before.before.before.onward.result.read c.before.before.before.before.before.before.before.before.before.before.before.before.before.onward.ensures.0 c.before.before.before.before.before.before.before.before.before.before.before.before.before.onward.ensures.1 c.before.before.before.before.before.before.before.before.before.before.before.before.before.onward.ensures.2 c.before.before.before.a2.given.0.0 c.before.before.before.a2.given.1 c.before.before.before.before.before.before.before.before.before.before.before.before.before.before.before.before.before.before.before.before.before.before.requires.0))
+note-requires-2 c κs = ((turn_went c.before.before.before.before.before.before.before.before.before.before.before.before.before.before.before.before.before.before.before.before.before.before.args.reading c.before.before.before.before.before.before.before.before.before.before.before.before.before.before.before.before.before.before.before.before.before.before.args.s.now c.before.before.before.before.before.before.before.before.before.before.before.before.before.before.before.before.before.before.before.before.before.before.args.store.now c.before.before.before.before.before.before.before.before.before.before.before.before.before.before.before.before.before.before.before.before.before.before.args.words c.before.before.before.before.before.before.before.before.before.before.before.before.before.before.before.before.before.before.before.before.before.before.args.found c.before.before.before.before.before.before.before.before.before.before.before.before.before.before.before.before.before.loop.store c.before.before.before.before.before.before.before.before.before.before.before.before.before.before.before.before.before.loop.n c.before.before.before.before.before.before.before.before.before.before.before.before.before.before.before.before.before.loop.count c.before.before.before.before.before.before.before.before.before.before.before.before.before.before.before.before.before.loop.at c.before.before.before.before.before.before.before.before.before.before.before.before.before.before.before.before.before.loop.under.place c.before.before.before.before.before.before.before.before.before.before.before.before.before.before.before.before.before.loop.under.read c.before.before.before.before.before.before.before.before.before.before.before.before.before.before.before.before.before.loop.invariant c.before.before.before.before.before.before.before.before.before.before.before.before.before.before.before.before.next2.result c.before.before.before.before.before.before.before.before.before.before.before.before.before.before.before.before.next2.ensures (λ z. c.before.before.before.before.before.before.before.before.before.before.before.before.before.before.if1.false (c.before.before.before.before.before.before.before.before.before.before.before.before.before.before.before.reached.ensures ∙ z)) c.before.before.before.before.before.before.before.before.before.before.before.before.before.onward.result.place c.before.before.before.before.before.before.before.before.before.before.before.before.before.onward.result.read c.before.before.before.before.before.before.before.before.before.before.before.before.before.onward.ensures.0 c.before.before.before.before.before.before.before.before.before.before.before.before.before.onward.ensures.1 c.before.before.before.before.before.before.before.before.before.before.before.before.before.onward.ensures.2 c.before.before.before.before.before.before.before.before.before.before.before.across.result c.before.before.before.before.before.before.before.before.before.before.before.across.ensures _ c.before.before.before.before.before.before.before.before.before.before.note.result c.before.before.before.before.before.before.before.before.before.before.note.ensures c.before.before.before.before.before.before.words1.given.0.0 c.before.before.before.before.before.before.words1.given.0.1.0 c.before.before.before.before.before.before.words1.given.1).in_store, (turn_went c.before.before.before.before.before.before.before.before.before.before.before.before.before.before.before.before.before.before.before.before.before.before.args.reading c.before.before.before.before.before.before.before.before.before.before.before.before.before.before.before.before.before.before.before.before.before.before.args.s.now c.before.before.before.before.before.before.before.before.before.before.before.before.before.before.before.before.before.before.before.before.before.before.args.store.now c.before.before.before.before.before.before.before.before.before.before.before.before.before.before.before.before.before.before.before.before.before.before.args.words c.before.before.before.before.before.before.before.before.before.before.before.before.before.before.before.before.before.before.before.before.before.before.args.found c.before.before.before.before.before.before.before.before.before.before.before.before.before.before.before.before.before.loop.store c.before.before.before.before.before.before.before.before.before.before.before.before.before.before.before.before.before.loop.n c.before.before.before.before.before.before.before.before.before.before.before.before.before.before.before.before.before.loop.count c.before.before.before.before.before.before.before.before.before.before.before.before.before.before.before.before.before.loop.at c.before.before.before.before.before.before.before.before.before.before.before.before.before.before.before.before.before.loop.under.place c.before.before.before.before.before.before.before.before.before.before.before.before.before.before.before.before.before.loop.under.read c.before.before.before.before.before.before.before.before.before.before.before.before.before.before.before.before.before.loop.invariant c.before.before.before.before.before.before.before.before.before.before.before.before.before.before.before.before.next2.result c.before.before.before.before.before.before.before.before.before.before.before.before.before.before.before.before.next2.ensures (λ z. c.before.before.before.before.before.before.before.before.before.before.before.before.before.before.if1.false (c.before.before.before.before.before.before.before.before.before.before.before.before.before.before.before.reached.ensures ∙ z)) c.before.before.before.before.before.before.before.before.before.before.before.before.before.onward.result.place c.before.before.before.before.before.before.before.before.before.before.before.before.before.onward.result.read c.before.before.before.before.before.before.before.before.before.before.before.before.before.onward.ensures.0 c.before.before.before.before.before.before.before.before.before.before.before.before.before.onward.ensures.1 c.before.before.before.before.before.before.before.before.before.before.before.before.before.onward.ensures.2 c.before.before.before.before.before.before.before.before.before.before.before.across.result c.before.before.before.before.before.before.before.before.before.before.before.across.ensures _ c.before.before.before.before.before.before.before.before.before.before.note.result c.before.before.before.before.before.before.before.before.before.before.note.ensures c.before.before.before.before.before.before.words1.given.0.0 c.before.before.before.before.before.before.words1.given.0.1.0 c.before.before.before.before.before.before.words1.given.1).few, subst AllSmall (sym c.alone.ensures) (turn_alone c.before.before.before.before.before.before.before.before.before.before.before.before.before.before.before.before.before.before.before.before.before.before.args.reading c.before.before.before.before.before.before.before.before.before.before.before.before.before.before.before.before.before.before.before.before.before.before.args.s.now c.before.before.before.before.before.before.before.before.before.before.before.before.before.before.before.before.before.before.before.before.before.before.args.store.now c.before.before.before.before.before.before.before.before.before.before.before.before.before.before.before.before.before.before.before.before.before.before.args.words c.before.before.before.before.before.before.before.before.before.before.before.before.before.before.before.before.before.before.before.before.before.before.args.found c.before.before.before.before.before.before.before.before.before.before.before.before.before.before.before.before.before.loop.store c.before.before.before.before.before.before.before.before.before.before.before.before.before.before.before.before.before.loop.n c.before.before.before.before.before.before.before.before.before.before.before.before.before.before.before.before.before.loop.count c.before.before.before.before.before.before.before.before.before.before.before.before.before.before.before.before.before.loop.at c.before.before.before.before.before.before.before.before.before.before.before.before.before.before.before.before.before.loop.under.place c.before.before.before.before.before.before.before.before.before.before.before.before.before.before.before.before.before.loop.under.read c.before.before.before.before.before.before.before.before.before.before.before.before.before.before.before.before.before.loop.invariant c.before.before.before.before.before.before.before.before.before.before.before.before.before.before.before.before.next2.result c.before.before.before.before.before.before.before.before.before.before.before.before.before.before.before.before.next2.ensures (λ z. c.before.before.before.before.before.before.before.before.before.before.before.before.before.before.if1.false (c.before.before.before.before.before.before.before.before.before.before.before.before.before.before.before.reached.ensures ∙ z)) c.before.before.before.before.before.before.before.before.before.before.before.before.before.onward.result.place c.before.before.before.before.before.before.before.before.before.before.before.before.before.onward.result.read c.before.before.before.before.before.before.before.before.before.before.before.before.before.onward.ensures.0 c.before.before.before.before.before.before.before.before.before.before.before.before.before.onward.ensures.1 c.before.before.before.before.before.before.before.before.before.before.before.before.before.onward.ensures.2 c.before.before.before.a2.given.0.0 c.before.before.before.a2.given.1 c.before.before.before.before.before.before.before.before.before.before.before.before.before.before.before.before.before.before.before.before.before.before.requires.0))
 
 enum-known-listed-2 : tie.Need-enum-known-listed-2 invariant-loop decreases-loop
 enum-known-listed-2 c = search rules

@@ -35,7 +35,7 @@ returns : tie.Need-returns
 returns c = (room_short c.before.before.before.before.before.before.before.before.before.before.before.before.before.before.args.tested c.before.before.before.before.before.before.before.before.before.before.before.before.before.before.args.list.now 1 0 c.before.before.before.before.before.before.before.before.before.before.before.before.before.before.args.room (state_of (nums_of c.before.before.before.before.before.before.before.before.before.before.before.before.before.before.args.nums.now) c.before.before.before.before.before.before.before.before.before.before.before.before.before.before.args.held.now c.before.before.before.before.before.before.before.before.before.before.before.before.before.before.args.counts.now c.before.before.before.before.before.before.before.before.before.before.before.before.before.before.args.waiting.now) (sym (refusal_held c.before.before.before.before.before.before.before.before.before.before.before.before.before.before.args.tested c.before.before.before.before.before.before.before.before.before.before.before.before.before.before.args.list.now 0 (state_of (nums_of c.before.before.before.before.before.before.before.before.before.before.before.before.before.before.args.nums.now) c.before.before.before.before.before.before.before.before.before.before.before.before.before.before.args.held.now c.before.before.before.before.before.before.before.before.before.before.before.before.before.before.args.counts.now c.before.before.before.before.before.before.before.before.before.before.before.before.before.before.args.waiting.now) (some_sound c.before.before.before.before.before.before.before.before.before.before.before.before.before.before.args.tested c.before.before.before.before.before.before.before.before.before.before.before.before.before.before.args.list.now (nums_of c.before.before.before.before.before.before.before.before.before.before.before.before.before.before.args.nums.now) c.before.before.before.before.before.before.before.before.before.before.before.before.before.before.args.held.now c.before.before.before.before.before.before.before.before.before.before.before.before.before.before.args.counts.now c.before.before.before.before.before.before.before.before.before.before.before.before.before.before.args.waiting.now (sym c.before.before.before.before.before.before.before.before.before.before.some.ensures ∙ c.before.before.before.before.before.before.before.before.before.if1.true)).0 (some_sound c.before.before.before.before.before.before.before.before.before.before.before.before.before.before.args.tested c.before.before.before.before.before.before.before.before.before.before.before.before.before.before.args.list.now (nums_of c.before.before.before.before.before.before.before.before.before.before.before.before.before.before.args.nums.now) c.before.before.before.before.before.before.before.before.before.before.before.before.before.before.args.held.now c.before.before.before.before.before.before.before.before.before.before.before.before.before.before.args.counts.now c.before.before.before.before.before.before.before.before.before.before.before.before.before.before.args.waiting.now (sym c.before.before.before.before.before.before.before.before.before.before.some.ensures ∙ c.before.before.before.before.before.before.before.before.before.if1.true)).1)) (omega (arith, (c.before.needs.ensures ∙ ap₂ (λ (k : ℕ) (ws : List ℕ). need_by 1 0 k (get_or ws 0 0)) (c.before.before.wide.ensures.0 ∙ c.before.before.before.count-before.ensures ∙ held_white c.before.before.before.before.before.before.before.before.before.before.before.before.before.before.args.list.now (state_of (nums_of c.before.before.before.before.before.before.before.before.before.before.before.before.before.before.args.nums.now) c.before.before.before.before.before.before.before.before.before.before.before.before.before.before.args.held.now c.before.before.before.before.before.before.before.before.before.before.before.before.before.before.args.counts.now c.before.before.before.before.before.before.before.before.before.before.before.before.before.before.args.waiting.now) (λ z. omega (arith, (some_sound c.before.before.before.before.before.before.before.before.before.before.before.before.before.before.args.tested c.before.before.before.before.before.before.before.before.before.before.before.before.before.before.args.list.now (nums_of c.before.before.before.before.before.before.before.before.before.before.before.before.before.before.args.nums.now) c.before.before.before.before.before.before.before.before.before.before.before.before.before.before.args.held.now c.before.before.before.before.before.before.before.before.before.before.before.before.before.before.args.counts.now c.before.before.before.before.before.before.before.before.before.before.before.before.before.before.args.waiting.now (sym c.before.before.before.before.before.before.before.before.before.before.some.ensures ∙ c.before.before.before.before.before.before.before.before.before.if1.true)).1, z))) (held_words c.before.before.before.before.before.before.before.before.before.before.before.before.before.before.args.list.now (state_of (nums_of c.before.before.before.before.before.before.before.before.before.before.before.before.before.before.args.nums.now) c.before.before.before.before.before.before.before.before.before.before.before.before.before.before.args.held.now c.before.before.before.before.before.before.before.before.before.before.before.before.before.before.args.counts.now c.before.before.before.before.before.before.before.before.before.before.before.before.before.before.args.waiting.now) (λ z. omega (arith, (some_sound c.before.before.before.before.before.before.before.before.before.before.before.before.before.before.args.tested c.before.before.before.before.before.before.before.before.before.before.before.before.before.before.args.list.now (nums_of c.before.before.before.before.before.before.before.before.before.before.before.before.before.before.args.nums.now) c.before.before.before.before.before.before.before.before.before.before.before.before.before.before.args.held.now c.before.before.before.before.before.before.before.before.before.before.before.before.before.before.args.counts.now c.before.before.before.before.before.before.before.before.before.before.before.before.before.before.args.waiting.now (sym c.before.before.before.before.before.before.before.before.before.before.some.ensures ∙ c.before.before.before.before.before.before.before.before.before.if1.true)).1, z)) _ c.before.before.before.before.before.before.nth-words.ensures)), c.if2.true)), room_kept c.before.before.before.before.before.before.before.before.before.before.before.before.before.before.args.tested c.before.before.before.before.before.before.before.before.before.before.before.before.before.before.args.list.now 1 0 c.before.before.before.before.before.before.before.before.before.before.before.before.before.before.args.room (state_of (nums_of c.before.before.before.before.before.before.before.before.before.before.before.before.before.before.args.nums.now) c.before.before.before.before.before.before.before.before.before.before.before.before.before.before.args.held.now c.before.before.before.before.before.before.before.before.before.before.before.before.before.before.args.counts.now c.before.before.before.before.before.before.before.before.before.before.before.before.before.before.args.waiting.now) 33 (room_short c.before.before.before.before.before.before.before.before.before.before.before.before.before.before.args.tested c.before.before.before.before.before.before.before.before.before.before.before.before.before.before.args.list.now 1 0 c.before.before.before.before.before.before.before.before.before.before.before.before.before.before.args.room (state_of (nums_of c.before.before.before.before.before.before.before.before.before.before.before.before.before.before.args.nums.now) c.before.before.before.before.before.before.before.before.before.before.before.before.before.before.args.held.now c.before.before.before.before.before.before.before.before.before.before.before.before.before.before.args.counts.now c.before.before.before.before.before.before.before.before.before.before.before.before.before.before.args.waiting.now) (sym (refusal_held c.before.before.before.before.before.before.before.before.before.before.before.before.before.before.args.tested c.before.before.before.before.before.before.before.before.before.before.before.before.before.before.args.list.now 0 (state_of (nums_of c.before.before.before.before.before.before.before.before.before.before.before.before.before.before.args.nums.now) c.before.before.before.before.before.before.before.before.before.before.before.before.before.before.args.held.now c.before.before.before.before.before.before.before.before.before.before.before.before.before.before.args.counts.now c.before.before.before.before.before.before.before.before.before.before.before.before.before.before.args.waiting.now) (some_sound c.before.before.before.before.before.before.before.before.before.before.before.before.before.before.args.tested c.before.before.before.before.before.before.before.before.before.before.before.before.before.before.args.list.now (nums_of c.before.before.before.before.before.before.before.before.before.before.before.before.before.before.args.nums.now) c.before.before.before.before.before.before.before.before.before.before.before.before.before.before.args.held.now c.before.before.before.before.before.before.before.before.before.before.before.before.before.before.args.counts.now c.before.before.before.before.before.before.before.before.before.before.before.before.before.before.args.waiting.now (sym c.before.before.before.before.before.before.before.before.before.before.some.ensures ∙ c.before.before.before.before.before.before.before.before.before.if1.true)).0 (some_sound c.before.before.before.before.before.before.before.before.before.before.before.before.before.before.args.tested c.before.before.before.before.before.before.before.before.before.before.before.before.before.before.args.list.now (nums_of c.before.before.before.before.before.before.before.before.before.before.before.before.before.before.args.nums.now) c.before.before.before.before.before.before.before.before.before.before.before.before.before.before.args.held.now c.before.before.before.before.before.before.before.before.before.before.before.before.before.before.args.counts.now c.before.before.before.before.before.before.before.before.before.before.before.before.before.before.args.waiting.now (sym c.before.before.before.before.before.before.before.before.before.before.some.ensures ∙ c.before.before.before.before.before.before.before.before.before.if1.true)).1)) (omega (arith, (c.before.needs.ensures ∙ ap₂ (λ (k : ℕ) (ws : List ℕ). need_by 1 0 k (get_or ws 0 0)) (c.before.before.wide.ensures.0 ∙ c.before.before.before.count-before.ensures ∙ held_white c.before.before.before.before.before.before.before.before.before.before.before.before.before.before.args.list.now (state_of (nums_of c.before.before.before.before.before.before.before.before.before.before.before.before.before.before.args.nums.now) c.before.before.before.before.before.before.before.before.before.before.before.before.before.before.args.held.now c.before.before.before.before.before.before.before.before.before.before.before.before.before.before.args.counts.now c.before.before.before.before.before.before.before.before.before.before.before.before.before.before.args.waiting.now) (λ z. omega (arith, (some_sound c.before.before.before.before.before.before.before.before.before.before.before.before.before.before.args.tested c.before.before.before.before.before.before.before.before.before.before.before.before.before.before.args.list.now (nums_of c.before.before.before.before.before.before.before.before.before.before.before.before.before.before.args.nums.now) c.before.before.before.before.before.before.before.before.before.before.before.before.before.before.args.held.now c.before.before.before.before.before.before.before.before.before.before.before.before.before.before.args.counts.now c.before.before.before.before.before.before.before.before.before.before.before.before.before.before.args.waiting.now (sym c.before.before.before.before.before.before.before.before.before.before.some.ensures ∙ c.before.before.before.before.before.before.before.before.before.if1.true)).1, z))) (held_words c.before.before.before.before.before.before.before.before.before.before.before.before.before.before.args.list.now (state_of (nums_of c.before.before.before.before.before.before.before.before.before.before.before.before.before.before.args.nums.now) c.before.before.before.before.before.before.before.before.before.before.before.before.before.before.args.held.now c.before.before.before.before.before.before.before.before.before.before.before.before.before.before.args.counts.now c.before.before.before.before.before.before.before.before.before.before.before.before.before.before.args.waiting.now) (λ z. omega (arith, (some_sound c.before.before.before.before.before.before.before.before.before.before.before.before.before.before.args.tested c.before.before.before.before.before.before.before.before.before.before.before.before.before.before.args.list.now (nums_of c.before.before.before.before.before.before.before.before.before.before.before.before.before.before.args.nums.now) c.before.before.before.before.before.before.before.before.before.before.before.before.before.before.args.held.now c.before.before.before.before.before.before.before.before.before.before.before.before.before.before.args.counts.now c.before.before.before.before.before.before.before.before.before.before.before.before.before.before.args.waiting.now (sym c.before.before.before.before.before.before.before.before.before.before.some.ensures ∙ c.before.before.before.before.before.before.before.before.before.if1.true)).1, z)) _ c.before.before.before.before.before.before.nth-words.ensures)), c.if2.true))) (λ z. let w : ◌≡◌ {A = ℕ} 33 0 = z in omega arith), (λ z. never (let w : ◌≡◌ {A = ℕ} 33 0 = z in omega arith)))
 
 returns-2 : tie.Need-returns-2
-returns-2 c = (room_done c.before.before.before.before.before.before.before.before.before.before.before.before.before.before.args.tested c.before.before.before.before.before.before.before.before.before.before.before.before.before.before.args.list.now 1 0 c.before.before.before.before.before.before.before.before.before.before.before.before.before.before.args.room (state_of (nums_of c.before.before.before.before.before.before.before.before.before.before.before.before.before.before.args.nums.now) c.before.before.before.before.before.before.before.before.before.before.before.before.before.before.args.held.now c.before.before.before.before.before.before.before.before.before.before.before.before.before.before.args.counts.now c.before.before.before.before.before.before.before.before.before.before.before.before.before.before.args.waiting.now) (sym (refusal_held c.before.before.before.before.before.before.before.before.before.before.before.before.before.before.args.tested c.before.before.before.before.before.before.before.before.before.before.before.before.before.before.args.list.now 0 (state_of (nums_of c.before.before.before.before.before.before.before.before.before.before.before.before.before.before.args.nums.now) c.before.before.before.before.before.before.before.before.before.before.before.before.before.before.args.held.now c.before.before.before.before.before.before.before.before.before.before.before.before.before.before.args.counts.now c.before.before.before.before.before.before.before.before.before.before.before.before.before.before.args.waiting.now) (some_sound c.before.before.before.before.before.before.before.before.before.before.before.before.before.before.args.tested c.before.before.before.before.before.before.before.before.before.before.before.before.before.before.args.list.now (nums_of c.before.before.before.before.before.before.before.before.before.before.before.before.before.before.args.nums.now) c.before.before.before.before.before.before.before.before.before.before.before.before.before.before.args.held.now c.before.before.before.before.before.before.before.before.before.before.before.before.before.before.args.counts.now c.before.before.before.before.before.before.before.before.before.before.before.before.before.before.args.waiting.now (sym c.before.before.before.before.before.before.before.before.before.before.some.ensures ∙ c.before.before.before.before.before.before.before.before.before.if1.true)).0 (some_sound c.before.before.before.before.before.before.before.before.before.before.before.before.before.before.args.tested c.before.before.before.before.before.before.before.before.before.before.before.before.before.before.args.list.now (nums_of c.before.before.before.before.before.before.before.before.before.before.before.before.before.before.args.nums.now) c.before.before.before.before.before.before.before.before.before.before.before.before.before.before.args.held.now c.before.before.before.before.before.before.before.before.before.before.before.before.before.before.args.counts.now c.before.before.before.before.before.before.before.before.before.before.before.before.before.before.args.waiting.now (sym c.before.before.before.before.before.before.before.before.before.before.some.ensures ∙ c.before.before.before.before.before.before.before.before.before.if1.true)).1)) (omega (arith, (c.before.needs.ensures ∙ ap₂ (λ (k : ℕ) (ws : List ℕ). need_by 1 0 k (get_or ws 0 0)) (c.before.before.wide.ensures.0 ∙ c.before.before.before.count-before.ensures ∙ held_white c.before.before.before.before.before.before.before.before.before.before.before.before.before.before.args.list.now (state_of (nums_of c.before.before.before.before.before.before.before.before.before.before.before.before.before.before.args.nums.now) c.before.before.before.before.before.before.before.before.before.before.before.before.before.before.args.held.now c.before.before.before.before.before.before.before.before.before.before.before.before.before.before.args.counts.now c.before.before.before.before.before.before.before.before.before.before.before.before.before.before.args.waiting.now) (λ z. omega (arith, (some_sound c.before.before.before.before.before.before.before.before.before.before.before.before.before.before.args.tested c.before.before.before.before.before.before.before.before.before.before.before.before.before.before.args.list.now (nums_of c.before.before.before.before.before.before.before.before.before.before.before.before.before.before.args.nums.now) c.before.before.before.before.before.before.before.before.before.before.before.before.before.before.args.held.now c.before.before.before.before.before.before.before.before.before.before.before.before.before.before.args.counts.now c.before.before.before.before.before.before.before.before.before.before.before.before.before.before.args.waiting.now (sym c.before.before.before.before.before.before.before.before.before.before.some.ensures ∙ c.before.before.before.before.before.before.before.before.before.if1.true)).1, z))) (held_words c.before.before.before.before.before.before.before.before.before.before.before.before.before.before.args.list.now (state_of (nums_of c.before.before.before.before.before.before.before.before.before.before.before.before.before.before.args.nums.now) c.before.before.before.before.before.before.before.before.before.before.before.before.before.before.args.held.now c.before.before.before.before.before.before.before.before.before.before.before.before.before.before.args.counts.now c.before.before.before.before.before.before.before.before.before.before.before.before.before.before.args.waiting.now) (λ z. omega (arith, (some_sound c.before.before.before.before.before.before.before.before.before.before.before.before.before.before.args.tested c.before.before.before.before.before.before.before.before.before.before.before.before.before.before.args.list.now (nums_of c.before.before.before.before.before.before.before.before.before.before.before.before.before.before.args.nums.now) c.before.before.before.before.before.before.before.before.before.before.before.before.before.before.args.held.now c.before.before.before.before.before.before.before.before.before.before.before.before.before.before.args.counts.now c.before.before.before.before.before.before.before.before.before.before.before.before.before.before.args.waiting.now (sym c.before.before.before.before.before.before.before.before.before.before.some.ensures ∙ c.before.before.before.before.before.before.before.before.before.if1.true)).1, z)) _ c.before.before.before.before.before.before.nth-words.ensures)), c.if2.false)), sym (fill_held c.before.before.before.before.before.before.before.before.before.before.before.before.before.before.args.list.now (state_of (nums_of c.before.before.before.before.before.before.before.before.before.before.before.before.before.before.args.nums.now) c.before.before.before.before.before.before.before.before.before.before.before.before.before.before.args.held.now c.before.before.before.before.before.before.before.before.before.before.before.before.before.before.args.counts.now c.before.before.before.before.before.before.before.before.before.before.before.before.before.before.args.waiting.now) (λ z. omega (arith, (some_sound c.before.before.before.before.before.before.before.before.before.before.before.before.before.before.args.tested c.before.before.before.before.before.before.before.before.before.before.before.before.before.before.args.list.now (nums_of c.before.before.before.before.before.before.before.before.before.before.before.before.before.before.args.nums.now) c.before.before.before.before.before.before.before.before.before.before.before.before.before.before.args.held.now c.before.before.before.before.before.before.before.before.before.before.before.before.before.before.args.counts.now c.before.before.before.before.before.before.before.before.before.before.before.before.before.before.args.waiting.now (sym c.before.before.before.before.before.before.before.before.before.before.some.ensures ∙ c.before.before.before.before.before.before.before.before.before.if1.true)).1, z))) ∙ room_filled c.before.before.before.before.before.before.before.before.before.before.before.before.before.before.args.tested c.before.before.before.before.before.before.before.before.before.before.before.before.before.before.args.list.now 1 0 c.before.before.before.before.before.before.before.before.before.before.before.before.before.before.args.room (state_of (nums_of c.before.before.before.before.before.before.before.before.before.before.before.before.before.before.args.nums.now) c.before.before.before.before.before.before.before.before.before.before.before.before.before.before.args.held.now c.before.before.before.before.before.before.before.before.before.before.before.before.before.before.args.counts.now c.before.before.before.before.before.before.before.before.before.before.before.before.before.before.args.waiting.now) 0 (room_done c.before.before.before.before.before.before.before.before.before.before.before.before.before.before.args.tested c.before.before.before.before.before.before.before.before.before.before.before.before.before.before.args.list.now 1 0 c.before.before.before.before.before.before.before.before.before.before.before.before.before.before.args.room (state_of (nums_of c.before.before.before.before.before.before.before.before.before.before.before.before.before.before.args.nums.now) c.before.before.before.before.before.before.before.before.before.before.before.before.before.before.args.held.now c.before.before.before.before.before.before.before.before.before.before.before.before.before.before.args.counts.now c.before.before.before.before.before.before.before.before.before.before.before.before.before.before.args.waiting.now) (sym (refusal_held c.before.before.before.before.before.before.before.before.before.before.before.before.before.before.args.tested c.before.before.before.before.before.before.before.before.before.before.before.before.before.before.args.list.now 0 (state_of (nums_of c.before.before.before.before.before.before.before.before.before.before.before.before.before.before.args.nums.now) c.before.before.before.before.before.before.before.before.before.before.before.before.before.before.args.held.now c.before.before.before.before.before.before.before.before.before.before.before.before.before.before.args.counts.now c.before.before.before.before.before.before.before.before.before.before.before.before.before.before.args.waiting.now) (some_sound c.before.before.before.before.before.before.before.before.before.before.before.before.before.before.args.tested c.before.before.before.before.before.before.before.before.before.before.before.before.before.before.args.list.now (nums_of c.before.before.before.before.before.before.before.before.before.before.before.before.before.before.args.nums.now) c.before.before.before.before.before.before.before.before.before.before.before.before.before.before.args.held.now c.before.before.before.before.before.before.before.before.before.before.before.before.before.before.args.counts.now c.before.before.before.before.before.before.before.before.before.before.before.before.before.before.args.waiting.now (sym c.before.before.before.before.before.before.before.before.before.before.some.ensures ∙ c.before.before.before.before.before.before.before.before.before.if1.true)).0 (some_sound c.before.before.before.before.before.before.before.before.before.before.before.before.before.before.args.tested c.before.before.before.before.before.before.before.before.before.before.before.before.before.before.args.list.now (nums_of c.before.before.before.before.before.before.before.before.before.before.before.before.before.before.args.nums.now) c.before.before.before.before.before.before.before.before.before.before.before.before.before.before.args.held.now c.before.before.before.before.before.before.before.before.before.before.before.before.before.before.args.counts.now c.before.before.before.before.before.before.before.before.before.before.before.before.before.before.args.waiting.now (sym c.before.before.before.before.before.before.before.before.before.before.some.ensures ∙ c.before.before.before.before.before.before.before.before.before.if1.true)).1)) (omega (arith, (c.before.needs.ensures ∙ ap₂ (λ (k : ℕ) (ws : List ℕ). need_by 1 0 k (get_or ws 0 0)) (c.before.before.wide.ensures.0 ∙ c.before.before.before.count-before.ensures ∙ held_white c.before.before.before.before.before.before.before.before.before.before.before.before.before.before.args.list.now (state_of (nums_of c.before.before.before.before.before.before.before.before.before.before.before.before.before.before.args.nums.now) c.before.before.before.before.before.before.before.before.before.before.before.before.before.before.args.held.now c.before.before.before.before.before.before.before.before.before.before.before.before.before.before.args.counts.now c.before.before.before.before.before.before.before.before.before.before.before.before.before.before.args.waiting.now) (λ z. omega (arith, (some_sound c.before.before.before.before.before.before.before.before.before.before.before.before.before.before.args.tested c.before.before.before.before.before.before.before.before.before.before.before.before.before.before.args.list.now (nums_of c.before.before.before.before.before.before.before.before.before.before.before.before.before.before.args.nums.now) c.before.before.before.before.before.before.before.before.before.before.before.before.before.before.args.held.now c.before.before.before.before.before.before.before.before.before.before.before.before.before.before.args.counts.now c.before.before.before.before.before.before.before.before.before.before.before.before.before.before.args.waiting.now (sym c.before.before.before.before.before.before.before.before.before.before.some.ensures ∙ c.before.before.before.before.before.before.before.before.before.if1.true)).1, z))) (held_words c.before.before.before.before.before.before.before.before.before.before.before.before.before.before.args.list.now (state_of (nums_of c.before.before.before.before.before.before.before.before.before.before.before.before.before.before.args.nums.now) c.before.before.before.before.before.before.before.before.before.before.before.before.before.before.args.held.now c.before.before.before.before.before.before.before.before.before.before.before.before.before.before.args.counts.now c.before.before.before.before.before.before.before.before.before.before.before.before.before.before.args.waiting.now) (λ z. omega (arith, (some_sound c.before.before.before.before.before.before.before.before.before.before.before.before.before.before.args.tested c.before.before.before.before.before.before.before.before.before.before.before.before.before.before.args.list.now (nums_of c.before.before.before.before.before.before.before.before.before.before.before.before.before.before.args.nums.now) c.before.before.before.before.before.before.before.before.before.before.before.before.before.before.args.held.now c.before.before.before.before.before.before.before.before.before.before.before.before.before.before.args.counts.now c.before.before.before.before.before.before.before.before.before.before.before.before.before.before.args.waiting.now (sym c.before.before.before.before.before.before.before.before.before.before.some.ensures ∙ c.before.before.before.before.before.before.before.before.before.if1.true)).1, z)) _ c.before.before.before.before.before.before.nth-words.ensures)), c.if2.false))) refl, λ z. held_emits c.before.before.before.before.before.before.before.before.before.before.before.before.before.before.args.list.now (state_of (nums_of c.before.before.before.before.before.before.before.before.before.before.before.before.before.before.args.nums.now) c.before.before.before.before.before.before.before.before.before.before.before.before.before.before.args.held.now c.before.before.before.before.before.before.before.before.before.before.before.before.before.before.args.counts.now c.before.before.before.before.before.before.before.before.before.before.before.before.before.before.args.waiting.now) (λ z. omega (arith, (some_sound c.before.before.before.before.before.before.before.before.before.before.before.before.before.before.args.tested c.before.before.before.before.before.before.before.before.before.before.before.before.before.before.args.list.now (nums_of c.before.before.before.before.before.before.before.before.before.before.before.before.before.before.args.nums.now) c.before.before.before.before.before.before.before.before.before.before.before.before.before.before.args.held.now c.before.before.before.before.before.before.before.before.before.before.before.before.before.before.args.counts.now c.before.before.before.before.before.before.before.before.before.before.before.before.before.before.args.waiting.now (sym c.before.before.before.before.before.before.before.before.before.before.some.ensures ∙ c.before.before.before.before.before.before.before.before.before.if1.true)).1, z)) (sound_sum c.before.before.before.before.before.before.before.before.before.before.before.before.before.before.args.tested c.before.before.before.before.before.before.before.before.before.before.before.before.before.before.args.list.now (state_of (nums_of c.before.before.before.before.before.before.before.before.before.before.before.before.before.before.args.nums.now) c.before.before.before.before.before.before.before.before.before.before.before.before.before.before.args.held.now c.before.before.before.before.before.before.before.before.before.before.before.before.before.before.args.counts.now c.before.before.before.before.before.before.before.before.before.before.before.before.before.before.args.waiting.now) (some_sound c.before.before.before.before.before.before.before.before.before.before.before.before.before.before.args.tested c.before.before.before.before.before.before.before.before.before.before.before.before.before.before.args.list.now (nums_of c.before.before.before.before.before.before.before.before.before.before.before.before.before.before.args.nums.now) c.before.before.before.before.before.before.before.before.before.before.before.before.before.before.args.held.now c.before.before.before.before.before.before.before.before.before.before.before.before.before.before.args.counts.now c.before.before.before.before.before.before.before.before.before.before.before.before.before.before.args.waiting.now (sym c.before.before.before.before.before.before.before.before.before.before.some.ensures ∙ c.before.before.before.before.before.before.before.before.before.if1.true)).0) (sound_bounded c.before.before.before.before.before.before.before.before.before.before.before.before.before.before.args.tested c.before.before.before.before.before.before.before.before.before.before.before.before.before.before.args.list.now (state_of (nums_of c.before.before.before.before.before.before.before.before.before.before.before.before.before.before.args.nums.now) c.before.before.before.before.before.before.before.before.before.before.before.before.before.before.args.held.now c.before.before.before.before.before.before.before.before.before.before.before.before.before.before.args.counts.now c.before.before.before.before.before.before.before.before.before.before.before.before.before.before.args.waiting.now) (some_sound c.before.before.before.before.before.before.before.before.before.before.before.before.before.before.args.tested c.before.before.before.before.before.before.before.before.before.before.before.before.before.before.args.list.now (nums_of c.before.before.before.before.before.before.before.before.before.before.before.before.before.before.args.nums.now) c.before.before.before.before.before.before.before.before.before.before.before.before.before.before.args.held.now c.before.before.before.before.before.before.before.before.before.before.before.before.before.before.args.counts.now c.before.before.before.before.before.before.before.before.before.before.before.before.before.before.args.waiting.now (sym c.before.before.before.before.before.before.before.before.before.before.some.ensures ∙ c.before.before.before.before.before.before.before.before.before.if1.true)).0).wait-in)
+returns-2 c = (room_done c.before.before.before.before.before.before.before.before.before.before.before.before.before.before.args.tested c.before.before.before.before.before.before.before.before.before.before.before.before.before.before.args.list.now 1 0 c.before.before.before.before.before.before.before.before.before.before.before.before.before.before.args.room (state_of (nums_of c.before.before.before.before.before.before.before.before.before.before.before.before.before.before.args.nums.now) c.before.before.before.before.before.before.before.before.before.before.before.before.before.before.args.held.now c.before.before.before.before.before.before.before.before.before.before.before.before.before.before.args.counts.now c.before.before.before.before.before.before.before.before.before.before.before.before.before.before.args.waiting.now) (sym (refusal_held c.before.before.before.before.before.before.before.before.before.before.before.before.before.before.args.tested c.before.before.before.before.before.before.before.before.before.before.before.before.before.before.args.list.now 0 (state_of (nums_of c.before.before.before.before.before.before.before.before.before.before.before.before.before.before.args.nums.now) c.before.before.before.before.before.before.before.before.before.before.before.before.before.before.args.held.now c.before.before.before.before.before.before.before.before.before.before.before.before.before.before.args.counts.now c.before.before.before.before.before.before.before.before.before.before.before.before.before.before.args.waiting.now) (some_sound c.before.before.before.before.before.before.before.before.before.before.before.before.before.before.args.tested c.before.before.before.before.before.before.before.before.before.before.before.before.before.before.args.list.now (nums_of c.before.before.before.before.before.before.before.before.before.before.before.before.before.before.args.nums.now) c.before.before.before.before.before.before.before.before.before.before.before.before.before.before.args.held.now c.before.before.before.before.before.before.before.before.before.before.before.before.before.before.args.counts.now c.before.before.before.before.before.before.before.before.before.before.before.before.before.before.args.waiting.now (sym c.before.before.before.before.before.before.before.before.before.before.some.ensures ∙ c.before.before.before.before.before.before.before.before.before.if1.true)).0 (some_sound c.before.before.before.before.before.before.before.before.before.before.before.before.before.before.args.tested c.before.before.before.before.before.before.before.before.before.before.before.before.before.before.args.list.now (nums_of c.before.before.before.before.before.before.before.before.before.before.before.before.before.before.args.nums.now) c.before.before.before.before.before.before.before.before.before.before.before.before.before.before.args.held.now c.before.before.before.before.before.before.before.before.before.before.before.before.before.before.args.counts.now c.before.before.before.before.before.before.before.before.before.before.before.before.before.before.args.waiting.now (sym c.before.before.before.before.before.before.before.before.before.before.some.ensures ∙ c.before.before.before.before.before.before.before.before.before.if1.true)).1)) (omega (arith, (c.before.needs.ensures ∙ ap₂ (λ (k : ℕ) (ws : List ℕ). need_by 1 0 k (get_or ws 0 0)) (c.before.before.wide.ensures.0 ∙ c.before.before.before.count-before.ensures ∙ held_white c.before.before.before.before.before.before.before.before.before.before.before.before.before.before.args.list.now (state_of (nums_of c.before.before.before.before.before.before.before.before.before.before.before.before.before.before.args.nums.now) c.before.before.before.before.before.before.before.before.before.before.before.before.before.before.args.held.now c.before.before.before.before.before.before.before.before.before.before.before.before.before.before.args.counts.now c.before.before.before.before.before.before.before.before.before.before.before.before.before.before.args.waiting.now) (λ z. omega (arith, (some_sound c.before.before.before.before.before.before.before.before.before.before.before.before.before.before.args.tested c.before.before.before.before.before.before.before.before.before.before.before.before.before.before.args.list.now (nums_of c.before.before.before.before.before.before.before.before.before.before.before.before.before.before.args.nums.now) c.before.before.before.before.before.before.before.before.before.before.before.before.before.before.args.held.now c.before.before.before.before.before.before.before.before.before.before.before.before.before.before.args.counts.now c.before.before.before.before.before.before.before.before.before.before.before.before.before.before.args.waiting.now (sym c.before.before.before.before.before.before.before.before.before.before.some.ensures ∙ c.before.before.before.before.before.before.before.before.before.if1.true)).1, z))) (held_words c.before.before.before.before.before.before.before.before.before.before.before.before.before.before.args.list.now (state_of (nums_of c.before.before.before.before.before.before.before.before.before.before.before.before.before.before.args.nums.now) c.before.before.before.before.before.before.before.before.before.before.before.before.before.before.args.held.now c.before.before.before.before.before.before.before.before.before.before.before.before.before.before.args.counts.now c.before.before.before.before.before.before.before.before.before.before.before.before.before.before.args.waiting.now) (λ z. omega (arith, (some_sound c.before.before.before.before.before.before.before.before.before.before.before.before.before.before.args.tested c.before.before.before.before.before.before.before.before.before.before.before.before.before.before.args.list.now (nums_of c.before.before.before.before.before.before.before.before.before.before.before.before.before.before.args.nums.now) c.before.before.before.before.before.before.before.before.before.before.before.before.before.before.args.held.now c.before.before.before.before.before.before.before.before.before.before.before.before.before.before.args.counts.now c.before.before.before.before.before.before.before.before.before.before.before.before.before.before.args.waiting.now (sym c.before.before.before.before.before.before.before.before.before.before.some.ensures ∙ c.before.before.before.before.before.before.before.before.before.if1.true)).1, z)) _ c.before.before.before.before.before.before.nth-words.ensures)), c.if2.false)), sym (fill_held c.before.before.before.before.before.before.before.before.before.before.before.before.before.before.args.list.now (state_of (nums_of c.before.before.before.before.before.before.before.before.before.before.before.before.before.before.args.nums.now) c.before.before.before.before.before.before.before.before.before.before.before.before.before.before.args.held.now c.before.before.before.before.before.before.before.before.before.before.before.before.before.before.args.counts.now c.before.before.before.before.before.before.before.before.before.before.before.before.before.before.args.waiting.now) (λ z. omega (arith, (some_sound c.before.before.before.before.before.before.before.before.before.before.before.before.before.before.args.tested c.before.before.before.before.before.before.before.before.before.before.before.before.before.before.args.list.now (nums_of c.before.before.before.before.before.before.before.before.before.before.before.before.before.before.args.nums.now) c.before.before.before.before.before.before.before.before.before.before.before.before.before.before.args.held.now c.before.before.before.before.before.before.before.before.before.before.before.before.before.before.args.counts.now c.before.before.before.before.before.before.before.before.before.before.before.before.before.before.args.waiting.now (sym c.before.before.before.before.before.before.before.before.before.before.some.ensures ∙ c.before.before.before.before.before.before.before.before.before.if1.true)).1, z))) ∙ room_filled c.before.before.before.before.before.before.before.before.before.before.before.before.before.before.args.tested c.before.before.before.before.before.before.before.before.before.before.before.before.before.before.args.list.now 1 0 c.before.before.before.before.before.before.before.before.before.before.before.before.before.before.args.room (state_of (nums_of c.before.before.before.before.before.before.before.before.before.before.before.before.before.before.args.nums.now) c.before.before.before.before.before.before.before.before.before.before.before.before.before.before.args.held.now c.before.before.before.before.before.before.before.before.before.before.before.before.before.before.args.counts.now c.before.before.before.before.before.before.before.before.before.before.before.before.before.before.args.waiting.now) 0 (room_done c.before.before.before.before.before.before.before.before.before.before.before.before.before.before.args.tested c.before.before.before.before.before.before.before.before.before.before.before.before.before.before.args.list.now 1 0 c.before.before.before.before.before.before.before.before.before.before.before.before.before.before.args.room (state_of (nums_of c.before.before.before.before.before.before.before.before.before.before.before.before.before.before.args.nums.now) c.before.before.before.before.before.before.before.before.before.before.before.before.before.before.args.held.now c.before.before.before.before.before.before.before.before.before.before.before.before.before.before.args.counts.now c.before.before.before.before.before.before.before.before.before.before.before.before.before.before.args.waiting.now) (sym (refusal_held c.before.before.before.before.before.before.before.before.before.before.before.before.before.before.args.tested c.before.before.before.before.before.before.before.before.before.before.before.before.before.before.args.list.now 0 (state_of (nums_of c.before.before.before.before.before.before.before.before.before.before.before.before.before.before.args.nums.now) c.before.before.before.before.before.before.before.before.before.before.before.before.before.before.args.held.now c.before.before.before.before.before.before.before.before.before.before.before.before.before.before.args.counts.now c.before.before.before.before.before.before.before.before.before.before.before.before.before.before.args.waiting.now) (some_sound c.before.before.before.before.before.before.before.before.before.before.before.before.before.before.args.tested c.before.before.before.before.before.before.before.before.before.before.before.before.before.before.args.list.now (nums_of c.before.before.before.before.before.before.before.before.before.before.before.before.before.before.args.nums.now) c.before.before.before.before.before.before.before.before.before.before.before.before.before.before.args.held.now c.before.before.before.before.before.before.before.before.before.before.before.before.before.before.args.counts.now c.before.before.before.before.before.before.before.before.before.before.before.before.before.before.args.waiting.now (sym c.before.before.before.before.before.before.before.before.before.before.some.ensures ∙ c.before.before.before.before.before.before.before.before.before.if1.true)).0 (some_sound c.before.before.before.before.before.before.before.before.before.before.before.before.before.before.args.tested c.before.before.before.before.before.before.before.before.before.before.before.before.before.before.args.list.now (nums_of c.before.before.before.before.before.before.before.before.before.before.before.before.before.before.args.nums.now) c.before.before.before.before.before.before.before.before.before.before.before.before.before.before.args.held.now c.before.before.before.before.before.before.before.before.before.before.before.before.before.before.args.counts.now c.before.before.before.before.before.before.before.before.before.before.before.before.before.before.args.waiting.now (sym c.before.before.before.before.before.before.before.before.before.before.some.ensures ∙ c.before.before.before.before.before.before.before.before.before.if1.true)).1)) (omega (arith, (c.before.needs.ensures ∙ ap₂ (λ (k : ℕ) (ws : List ℕ). need_by 1 0 k (get_or ws 0 0)) (c.before.before.wide.ensures.0 ∙ c.before.before.before.count-before.ensures ∙ held_white c.before.before.before.before.before.before.before.before.before.before.before.before.before.before.args.list.now (state_of (nums_of c.before.before.before.before.before.before.before.before.before.before.before.before.before.before.args.nums.now) c.before.before.before.before.before.before.before.before.before.before.before.before.before.before.args.held.now c.before.before.before.before.before.before.before.before.before.before.before.before.before.before.args.counts.now c.before.before.before.before.before.before.before.before.before.before.before.before.before.before.args.waiting.now) (λ z. omega (arith, (some_sound c.before.before.before.before.before.before.before.before.before.before.before.before.before.before.args.tested c.before.before.before.before.before.before.before.before.before.before.before.before.before.before.args.list.now (nums_of c.before.before.before.before.before.before.before.before.before.before.before.before.before.before.args.nums.now) c.before.before.before.before.before.before.before.before.before.before.before.before.before.before.args.held.now c.before.before.before.before.before.before.before.before.before.before.before.before.before.before.args.counts.now c.before.before.before.before.before.before.before.before.before.before.before.before.before.before.args.waiting.now (sym c.before.before.before.before.before.before.before.before.before.before.some.ensures ∙ c.before.before.before.before.before.before.before.before.before.if1.true)).1, z))) (held_words c.before.before.before.before.before.before.before.before.before.before.before.before.before.before.args.list.now (state_of (nums_of c.before.before.before.before.before.before.before.before.before.before.before.before.before.before.args.nums.now) c.before.before.before.before.before.before.before.before.before.before.before.before.before.before.args.held.now c.before.before.before.before.before.before.before.before.before.before.before.before.before.before.args.counts.now c.before.before.before.before.before.before.before.before.before.before.before.before.before.before.args.waiting.now) (λ z. omega (arith, (some_sound c.before.before.before.before.before.before.before.before.before.before.before.before.before.before.args.tested c.before.before.before.before.before.before.before.before.before.before.before.before.before.before.args.list.now (nums_of c.before.before.before.before.before.before.before.before.before.before.before.before.before.before.args.nums.now) c.before.before.before.before.before.before.before.before.before.before.before.before.before.before.args.held.now c.before.before.before.before.before.before.before.before.before.before.before.before.before.before.args.counts.now c.before.before.before.before.before.before.before.before.before.before.before.before.before.before.args.waiting.now (sym c.before.before.before.before.before.before.before.before.before.before.some.ensures ∙ c.before.before.before.before.before.before.before.before.before.if1.true)).1, z)) _ c.before.before.before.before.before.before.nth-words.ensures)), c.if2.false))) refl, λ z. held_emits c.before.before.before.before.before.before.before.before.before.before.before.before.before.before.args.list.now (state_of (nums_of c.before.before.before.before.before.before.before.before.before.before.before.before.before.before.args.nums.now) c.before.before.before.before.before.before.before.before.before.before.before.before.before.before.args.held.now c.before.before.before.before.before.before.before.before.before.before.before.before.before.before.args.counts.now c.before.before.before.before.before.before.before.before.before.before.before.before.before.before.args.waiting.now) (λ z. omega (arith, (some_sound c.before.before.before.before.before.before.before.before.before.before.before.before.before.before.args.tested c.before.before.before.before.before.before.before.before.before.before.before.before.before.before.args.list.now (nums_of c.before.before.before.before.before.before.before.before.before.before.before.before.before.before.args.nums.now) c.before.before.before.before.before.before.before.before.before.before.before.before.before.before.args.held.now c.before.before.before.before.before.before.before.before.before.before.before.before.before.before.args.counts.now c.before.before.before.before.before.before.before.before.before.before.before.before.before.before.args.waiting.now (sym c.before.before.before.before.before.before.before.before.before.before.some.ensures ∙ c.before.before.before.before.before.before.before.before.before.if1.true)).1, z)) (sound_sum c.before.before.before.before.before.before.before.before.before.before.before.before.before.before.args.tested c.before.before.before.before.before.before.before.before.before.before.before.before.before.before.args.list.now (state_of (nums_of c.before.before.before.before.before.before.before.before.before.before.before.before.before.before.args.nums.now) c.before.before.before.before.before.before.before.before.before.before.before.before.before.before.args.held.now c.before.before.before.before.before.before.before.before.before.before.before.before.before.before.args.counts.now c.before.before.before.before.before.before.before.before.before.before.before.before.before.before.args.waiting.now) (some_sound c.before.before.before.before.before.before.before.before.before.before.before.before.before.before.args.tested c.before.before.before.before.before.before.before.before.before.before.before.before.before.before.args.list.now (nums_of c.before.before.before.before.before.before.before.before.before.before.before.before.before.before.args.nums.now) c.before.before.before.before.before.before.before.before.before.before.before.before.before.before.args.held.now c.before.before.before.before.before.before.before.before.before.before.before.before.before.before.args.counts.now c.before.before.before.before.before.before.before.before.before.before.before.before.before.before.args.waiting.now (sym c.before.before.before.before.before.before.before.before.before.before.some.ensures ∙ c.before.before.before.before.before.before.before.before.before.if1.true)).0) (sound_bounded c.before.before.before.before.before.before.before.before.before.before.before.before.before.before.args.tested c.before.before.before.before.before.before.before.before.before.before.before.before.before.before.args.list.now (state_of (nums_of c.before.before.before.before.before.before.before.before.before.before.before.before.before.before.args.nums.now) c.before.before.before.before.before.before.before.before.before.before.before.before.before.before.args.held.now c.before.before.before.before.before.before.before.before.before.before.before.before.before.before.args.counts.now c.before.before.before.before.before.before.before.before.before.before.before.before.before.before.args.waiting.now) (some_sound c.before.before.before.before.before.before.before.before.before.before.before.before.before.before.args.tested c.before.before.before.before.before.before.before.before.before.before.before.before.before.before.args.list.now (nums_of c.before.before.before.before.before.before.before.before.before.before.before.before.before.before.args.nums.now) c.before.before.before.before.before.before.before.before.before.before.before.before.before.before.args.held.now c.before.before.before.before.before.before.before.before.before.before.before.before.before.before.args.counts.now c.before.before.before.before.before.before.before.before.before.before.before.before.before.before.args.waiting.now (sym c.before.before.before.before.before.before.before.before.before.before.some.ensures ∙ c.before.before.before.before.before.before.before.before.before.if1.true)).0).wait_in)
 
 front-slow-requires : tie.Need-front-slow-requires
 front-slow-requires c κs = search rules

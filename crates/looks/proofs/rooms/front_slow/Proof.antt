@@ -27,7 +27,7 @@ returns : tie.Need-returns
 returns c = (room_refused c.before.before.before.before.before.before.before.before.args.tested c.before.before.before.before.before.before.before.before.args.list.now c.before.before.before.before.before.before.before.before.args.how c.before.before.before.before.before.before.before.before.args.kind c.before.before.before.before.before.before.before.before.args.room (state_of (nums_of c.before.before.before.before.before.before.before.before.args.nums.now) c.before.before.before.before.before.before.before.before.args.held.now c.before.before.before.before.before.before.before.before.args.counts.now c.before.before.before.before.before.before.before.before.args.waiting.now) _ (c.before.fill-refusal.ensures ∙ ap (λ (k : Nums). fill_refusal c.before.before.before.before.before.before.before.before.args.tested c.before.before.before.before.before.before.before.before.args.list.now 0 (state_of k c.before.before.before.before.before.before.before.before.args.held.now c.before.before.before.before.before.before.before.before.args.counts.now c.before.before.before.before.before.before.before.before.args.waiting.now)) c.before.before.before.before.before.nums-of.ensures) c.if1.true, room_kept c.before.before.before.before.before.before.before.before.args.tested c.before.before.before.before.before.before.before.before.args.list.now c.before.before.before.before.before.before.before.before.args.how c.before.before.before.before.before.before.before.before.args.kind c.before.before.before.before.before.before.before.before.args.room (state_of (nums_of c.before.before.before.before.before.before.before.before.args.nums.now) c.before.before.before.before.before.before.before.before.args.held.now c.before.before.before.before.before.before.before.before.args.counts.now c.before.before.before.before.before.before.before.before.args.waiting.now) _ (room_refused c.before.before.before.before.before.before.before.before.args.tested c.before.before.before.before.before.before.before.before.args.list.now c.before.before.before.before.before.before.before.before.args.how c.before.before.before.before.before.before.before.before.args.kind c.before.before.before.before.before.before.before.before.args.room (state_of (nums_of c.before.before.before.before.before.before.before.before.args.nums.now) c.before.before.before.before.before.before.before.before.args.held.now c.before.before.before.before.before.before.before.before.args.counts.now c.before.before.before.before.before.before.before.before.args.waiting.now) _ (c.before.fill-refusal.ensures ∙ ap (λ (k : Nums). fill_refusal c.before.before.before.before.before.before.before.before.args.tested c.before.before.before.before.before.before.before.before.args.list.now 0 (state_of k c.before.before.before.before.before.before.before.before.args.held.now c.before.before.before.before.before.before.before.before.args.counts.now c.before.before.before.before.before.before.before.before.args.waiting.now)) c.before.before.before.before.before.nums-of.ensures) c.if1.true) c.if1.true, λ z. absurd (c.if1.true z))
 
 front-of-requires : tie.Need-front-of-requires
-front-of-requires c κs = (subst (λ (k : Nums). k.next ≤ token_count c.before.before.before.before.before.before.before.before.before.before.before.before.args.list.now) (sym c.before.before.before.before.before.before.before.before.before.nums-of.ensures) (sound_bounded c.before.before.before.before.before.before.before.before.before.before.before.before.args.tested c.before.before.before.before.before.before.before.before.before.before.before.before.args.list.now (state_of (nums_of c.before.before.before.before.before.before.before.before.before.before.before.before.args.nums.now) c.before.before.before.before.before.before.before.before.before.before.before.before.args.held.now c.before.before.before.before.before.before.before.before.before.before.before.before.args.counts.now c.before.before.before.before.before.before.before.before.before.before.before.before.args.waiting.now) (refusal_none c.before.before.before.before.before.before.before.before.before.before.before.before.args.tested c.before.before.before.before.before.before.before.before.before.before.before.before.args.list.now 0 (state_of (nums_of c.before.before.before.before.before.before.before.before.before.before.before.before.args.nums.now) c.before.before.before.before.before.before.before.before.before.before.before.before.args.held.now c.before.before.before.before.before.before.before.before.before.before.before.before.args.counts.now c.before.before.before.before.before.before.before.before.before.before.before.before.args.waiting.now) (sym (c.before.before.before.before.before.fill-refusal.ensures ∙ ap (λ (k : Nums). fill_refusal c.before.before.before.before.before.before.before.before.before.before.before.before.args.tested c.before.before.before.before.before.before.before.before.before.before.before.before.args.list.now 0 (state_of k c.before.before.before.before.before.before.before.before.before.before.before.before.args.held.now c.before.before.before.before.before.before.before.before.before.before.before.before.args.counts.now c.before.before.before.before.before.before.before.before.before.before.before.before.args.waiting.now)) c.before.before.before.before.before.before.before.before.before.nums-of.ensures) ∙ c.before.before.before.before.if1.false)).0).reach, subst (λ (k : Nums). k.wait_len ≤ 256) (sym c.before.before.before.before.before.before.before.before.before.nums-of.ensures) (sound_bounded c.before.before.before.before.before.before.before.before.before.before.before.before.args.tested c.before.before.before.before.before.before.before.before.before.before.before.before.args.list.now (state_of (nums_of c.before.before.before.before.before.before.before.before.before.before.before.before.args.nums.now) c.before.before.before.before.before.before.before.before.before.before.before.before.args.held.now c.before.before.before.before.before.before.before.before.before.before.before.before.args.counts.now c.before.before.before.before.before.before.before.before.before.before.before.before.args.waiting.now) (refusal_none c.before.before.before.before.before.before.before.before.before.before.before.before.args.tested c.before.before.before.before.before.before.before.before.before.before.before.before.args.list.now 0 (state_of (nums_of c.before.before.before.before.before.before.before.before.before.before.before.before.args.nums.now) c.before.before.before.before.before.before.before.before.before.before.before.before.args.held.now c.before.before.before.before.before.before.before.before.before.before.before.before.args.counts.now c.before.before.before.before.before.before.before.before.before.before.before.before.args.waiting.now) (sym (c.before.before.before.before.before.fill-refusal.ensures ∙ ap (λ (k : Nums). fill_refusal c.before.before.before.before.before.before.before.before.before.before.before.before.args.tested c.before.before.before.before.before.before.before.before.before.before.before.before.args.list.now 0 (state_of k c.before.before.before.before.before.before.before.before.before.before.before.before.args.held.now c.before.before.before.before.before.before.before.before.before.before.before.before.args.counts.now c.before.before.before.before.before.before.before.before.before.before.before.before.args.waiting.now)) c.before.before.before.before.before.before.before.before.before.nums-of.ensures) ∙ c.before.before.before.before.if1.false)).0).wait-few, c.before.before.front-of-arg2.given.0, c.front-of-arg4.given.0)
+front-of-requires c κs = (subst (λ (k : Nums). k.next ≤ token_count c.before.before.before.before.before.before.before.before.before.before.before.before.args.list.now) (sym c.before.before.before.before.before.before.before.before.before.nums-of.ensures) (sound_bounded c.before.before.before.before.before.before.before.before.before.before.before.before.args.tested c.before.before.before.before.before.before.before.before.before.before.before.before.args.list.now (state_of (nums_of c.before.before.before.before.before.before.before.before.before.before.before.before.args.nums.now) c.before.before.before.before.before.before.before.before.before.before.before.before.args.held.now c.before.before.before.before.before.before.before.before.before.before.before.before.args.counts.now c.before.before.before.before.before.before.before.before.before.before.before.before.args.waiting.now) (refusal_none c.before.before.before.before.before.before.before.before.before.before.before.before.args.tested c.before.before.before.before.before.before.before.before.before.before.before.before.args.list.now 0 (state_of (nums_of c.before.before.before.before.before.before.before.before.before.before.before.before.args.nums.now) c.before.before.before.before.before.before.before.before.before.before.before.before.args.held.now c.before.before.before.before.before.before.before.before.before.before.before.before.args.counts.now c.before.before.before.before.before.before.before.before.before.before.before.before.args.waiting.now) (sym (c.before.before.before.before.before.fill-refusal.ensures ∙ ap (λ (k : Nums). fill_refusal c.before.before.before.before.before.before.before.before.before.before.before.before.args.tested c.before.before.before.before.before.before.before.before.before.before.before.before.args.list.now 0 (state_of k c.before.before.before.before.before.before.before.before.before.before.before.before.args.held.now c.before.before.before.before.before.before.before.before.before.before.before.before.args.counts.now c.before.before.before.before.before.before.before.before.before.before.before.before.args.waiting.now)) c.before.before.before.before.before.before.before.before.before.nums-of.ensures) ∙ c.before.before.before.before.if1.false)).0).reach, subst (λ (k : Nums). k.wait_len ≤ 256) (sym c.before.before.before.before.before.before.before.before.before.nums-of.ensures) (sound_bounded c.before.before.before.before.before.before.before.before.before.before.before.before.args.tested c.before.before.before.before.before.before.before.before.before.before.before.before.args.list.now (state_of (nums_of c.before.before.before.before.before.before.before.before.before.before.before.before.args.nums.now) c.before.before.before.before.before.before.before.before.before.before.before.before.args.held.now c.before.before.before.before.before.before.before.before.before.before.before.before.args.counts.now c.before.before.before.before.before.before.before.before.before.before.before.before.args.waiting.now) (refusal_none c.before.before.before.before.before.before.before.before.before.before.before.before.args.tested c.before.before.before.before.before.before.before.before.before.before.before.before.args.list.now 0 (state_of (nums_of c.before.before.before.before.before.before.before.before.before.before.before.before.args.nums.now) c.before.before.before.before.before.before.before.before.before.before.before.before.args.held.now c.before.before.before.before.before.before.before.before.before.before.before.before.args.counts.now c.before.before.before.before.before.before.before.before.before.before.before.before.args.waiting.now) (sym (c.before.before.before.before.before.fill-refusal.ensures ∙ ap (λ (k : Nums). fill_refusal c.before.before.before.before.before.before.before.before.before.before.before.before.args.tested c.before.before.before.before.before.before.before.before.before.before.before.before.args.list.now 0 (state_of k c.before.before.before.before.before.before.before.before.before.before.before.before.args.held.now c.before.before.before.before.before.before.before.before.before.before.before.before.args.counts.now c.before.before.before.before.before.before.before.before.before.before.before.before.args.waiting.now)) c.before.before.before.before.before.before.before.before.before.nums-of.ensures) ∙ c.before.before.before.before.if1.false)).0).wait_few, c.before.before.front-of-arg2.given.0, c.front-of-arg4.given.0)
 
 needs-requires : tie.Need-needs-requires
 needs-requires c κs = c.front_of.ensures.1
@@ -42,7 +42,7 @@ gathers-at-requires : tie.Need-gathers-at-requires
 gathers-at-requires c κs = gather_ready c.before.before.before.before.before.before.before.before.before.before.before.before.before.before.before.before.before.before.before.before.args.list.now (nums_of c.before.before.before.before.before.before.before.before.before.before.before.before.before.before.before.before.before.before.before.before.args.nums.now) 1 _ (sound_bounded c.before.before.before.before.before.before.before.before.before.before.before.before.before.before.before.before.before.before.before.before.args.tested c.before.before.before.before.before.before.before.before.before.before.before.before.before.before.before.before.before.before.before.before.args.list.now (state_of (nums_of c.before.before.before.before.before.before.before.before.before.before.before.before.before.before.before.before.before.before.before.before.args.nums.now) c.before.before.before.before.before.before.before.before.before.before.before.before.before.before.before.before.before.before.before.before.args.held.now c.before.before.before.before.before.before.before.before.before.before.before.before.before.before.before.before.before.before.before.before.args.counts.now c.before.before.before.before.before.before.before.before.before.before.before.before.before.before.before.before.before.before.before.before.args.waiting.now) (refusal_none c.before.before.before.before.before.before.before.before.before.before.before.before.before.before.before.before.before.before.before.before.args.tested c.before.before.before.before.before.before.before.before.before.before.before.before.before.before.before.before.before.before.before.before.args.list.now 0 (state_of (nums_of c.before.before.before.before.before.before.before.before.before.before.before.before.before.before.before.before.before.before.before.before.args.nums.now) c.before.before.before.before.before.before.before.before.before.before.before.before.before.before.before.before.before.before.before.before.args.held.now c.before.before.before.before.before.before.before.before.before.before.before.before.before.before.before.before.before.before.before.before.args.counts.now c.before.before.before.before.before.before.before.before.before.before.before.before.before.before.before.before.before.before.before.before.args.waiting.now) (sym (c.before.before.before.before.before.before.before.before.before.before.before.before.before.fill-refusal.ensures ∙ ap (λ (k : Nums). fill_refusal c.before.before.before.before.before.before.before.before.before.before.before.before.before.before.before.before.before.before.before.before.args.tested c.before.before.before.before.before.before.before.before.before.before.before.before.before.before.before.before.before.before.before.before.args.list.now 0 (state_of k c.before.before.before.before.before.before.before.before.before.before.before.before.before.before.before.before.before.before.before.before.args.held.now c.before.before.before.before.before.before.before.before.before.before.before.before.before.before.before.before.before.before.before.before.args.counts.now c.before.before.before.before.before.before.before.before.before.before.before.before.before.before.before.before.before.before.before.before.args.waiting.now)) c.before.before.before.before.before.before.before.before.before.before.before.before.before.before.before.before.before.nums-of.ensures) ∙ c.before.before.before.before.before.before.before.before.before.before.before.before.if1.false)).0) (omega arith) (c.lacks.ensures ∙ ap (λ (k : Nums). 1 - k.held_len) c.before.before.before.before.before.before.before.before.before.before.before.before.before.before.before.before.before.nums-of.ensures) (refusal_none c.before.before.before.before.before.before.before.before.before.before.before.before.before.before.before.before.before.before.before.before.args.tested c.before.before.before.before.before.before.before.before.before.before.before.before.before.before.before.before.before.before.before.before.args.list.now 0 (state_of (nums_of c.before.before.before.before.before.before.before.before.before.before.before.before.before.before.before.before.before.before.before.before.args.nums.now) c.before.before.before.before.before.before.before.before.before.before.before.before.before.before.before.before.before.before.before.before.args.held.now c.before.before.before.before.before.before.before.before.before.before.before.before.before.before.before.before.before.before.before.before.args.counts.now c.before.before.before.before.before.before.before.before.before.before.before.before.before.before.before.before.before.before.before.before.args.waiting.now) (sym (c.before.before.before.before.before.before.before.before.before.before.before.before.before.fill-refusal.ensures ∙ ap (λ (k : Nums). fill_refusal c.before.before.before.before.before.before.before.before.before.before.before.before.before.before.before.before.before.before.before.before.args.tested c.before.before.before.before.before.before.before.before.before.before.before.before.before.before.before.before.before.before.before.before.args.list.now 0 (state_of k c.before.before.before.before.before.before.before.before.before.before.before.before.before.before.before.before.before.before.before.before.args.held.now c.before.before.before.before.before.before.before.before.before.before.before.before.before.before.before.before.before.before.before.before.args.counts.now c.before.before.before.before.before.before.before.before.before.before.before.before.before.before.before.before.before.before.before.before.args.waiting.now)) c.before.before.before.before.before.before.before.before.before.before.before.before.before.before.before.before.before.nums-of.ensures) ∙ c.before.before.before.before.before.before.before.before.before.before.before.before.if1.false)).2
 
 returns-3 : tie.Need-returns-3
-returns-3 c = (room_done c.before.before.before.before.before.before.before.before.before.before.before.before.before.before.before.before.before.before.before.before.before.args.tested c.before.before.before.before.before.before.before.before.before.before.before.before.before.before.before.before.before.before.before.before.before.args.list.now c.before.before.before.before.before.before.before.before.before.before.before.before.before.before.before.before.before.before.before.before.before.args.how c.before.before.before.before.before.before.before.before.before.before.before.before.before.before.before.before.before.before.before.before.before.args.kind c.before.before.before.before.before.before.before.before.before.before.before.before.before.before.before.before.before.before.before.before.before.args.room (state_of (nums_of c.before.before.before.before.before.before.before.before.before.before.before.before.before.before.before.before.before.before.before.before.before.args.nums.now) c.before.before.before.before.before.before.before.before.before.before.before.before.before.before.before.before.before.before.before.before.before.args.held.now c.before.before.before.before.before.before.before.before.before.before.before.before.before.before.before.before.before.before.before.before.before.args.counts.now c.before.before.before.before.before.before.before.before.before.before.before.before.before.before.before.before.before.before.before.before.before.args.waiting.now) (sym (c.before.before.before.before.before.before.before.before.before.before.before.before.before.before.fill-refusal.ensures ∙ ap (λ (k : Nums). fill_refusal c.before.before.before.before.before.before.before.before.before.before.before.before.before.before.before.before.before.before.before.before.before.args.tested c.before.before.before.before.before.before.before.before.before.before.before.before.before.before.before.before.before.before.before.before.before.args.list.now 0 (state_of k c.before.before.before.before.before.before.before.before.before.before.before.before.before.before.before.before.before.before.before.before.before.args.held.now c.before.before.before.before.before.before.before.before.before.before.before.before.before.before.before.before.before.before.before.before.before.args.counts.now c.before.before.before.before.before.before.before.before.before.before.before.before.before.before.before.before.before.before.before.before.before.args.waiting.now)) c.before.before.before.before.before.before.before.before.before.before.before.before.before.before.before.before.before.before.nums-of.ensures) ∙ c.before.before.before.before.before.before.before.before.before.before.before.before.before.if1.false) (omega (arith, (c.before.before.before.before.before.before.before.needs.ensures ∙ ap₂ (λ (k : ℕ) (ws : List ℕ). need_by c.before.before.before.before.before.before.before.before.before.before.before.before.before.before.before.before.before.before.before.before.before.args.how c.before.before.before.before.before.before.before.before.before.before.before.before.before.before.before.before.before.before.before.before.before.args.kind k (get_or ws 0 0)) (subst (λ (k : Nums). Fronted c.before.before.before.before.before.before.before.before.before.before.before.before.before.before.before.before.before.before.before.before.before.args.list.now k c.before.before.before.before.before.before.before.before.before.before.before.before.before.before.before.before.before.before.before.before.before.args.held.now c.before.before.before.before.before.before.before.before.before.before.before.before.before.before.before.before.before.before.before.before.before.args.counts.now c.before.before.before.before.before.before.before.before.front_of.result.white (words_of c.before.before.before.before.before.before.before.before.front_of.result.words)) c.before.before.before.before.before.before.before.before.before.before.before.before.before.before.before.before.before.before.nums-of.ensures c.before.before.before.before.before.before.before.before.front_of.ensures.0 c.before.before.before.before.before.before.before.before.before.before.before.before.before.before.before.before.before.before.before.before.before.args.waiting.now).0 (subst (λ (k : Nums). Fronted c.before.before.before.before.before.before.before.before.before.before.before.before.before.before.before.before.before.before.before.before.before.args.list.now k c.before.before.before.before.before.before.before.before.before.before.before.before.before.before.before.before.before.before.before.before.before.args.held.now c.before.before.before.before.before.before.before.before.before.before.before.before.before.before.before.before.before.before.before.before.before.args.counts.now c.before.before.before.before.before.before.before.before.front_of.result.white (words_of c.before.before.before.before.before.before.before.before.front_of.result.words)) c.before.before.before.before.before.before.before.before.before.before.before.before.before.before.before.before.before.before.nums-of.ensures c.before.before.before.before.before.before.before.before.front_of.ensures.0 c.before.before.before.before.before.before.before.before.before.before.before.before.before.before.before.before.before.before.before.before.before.args.waiting.now).1), c.before.before.before.before.before.before.if2.false)), c.gathers-at.ensures ∙ ap (λ (k : ℕ). gathers c.before.before.before.before.before.before.before.before.before.before.before.before.before.before.before.before.before.before.before.before.before.args.list.now k (state_of (nums_of c.before.before.before.before.before.before.before.before.before.before.before.before.before.before.before.before.before.before.before.before.before.args.nums.now) c.before.before.before.before.before.before.before.before.before.before.before.before.before.before.before.before.before.before.before.before.before.args.held.now c.before.before.before.before.before.before.before.before.before.before.before.before.before.before.before.before.before.before.before.before.before.args.counts.now c.before.before.before.before.before.before.before.before.before.before.before.before.before.before.before.before.before.before.before.before.before.args.waiting.now)) (c.before.lacks.ensures ∙ ap (λ (k : Nums). 1 - k.held_len) c.before.before.before.before.before.before.before.before.before.before.before.before.before.before.before.before.before.before.nums-of.ensures) ∙ room_filled c.before.before.before.before.before.before.before.before.before.before.before.before.before.before.before.before.before.before.before.before.before.args.tested c.before.before.before.before.before.before.before.before.before.before.before.before.before.before.before.before.before.before.before.before.before.args.list.now c.before.before.before.before.before.before.before.before.before.before.before.before.before.before.before.before.before.before.before.before.before.args.how c.before.before.before.before.before.before.before.before.before.before.before.before.before.before.before.before.before.before.before.before.before.args.kind c.before.before.before.before.before.before.before.before.before.before.before.before.before.before.before.before.before.before.before.before.before.args.room (state_of (nums_of c.before.before.before.before.before.before.before.before.before.before.before.before.before.before.before.before.before.before.before.before.before.args.nums.now) c.before.before.before.before.before.before.before.before.before.before.before.before.before.before.before.before.before.before.before.before.before.args.held.now c.before.before.before.before.before.before.before.before.before.before.before.before.before.before.before.before.before.before.before.before.before.args.counts.now c.before.before.before.before.before.before.before.before.before.before.before.before.before.before.before.before.before.before.before.before.before.args.waiting.now) 0 (room_done c.before.before.before.before.before.before.before.before.before.before.before.before.before.before.before.before.before.before.before.before.before.args.tested c.before.before.before.before.before.before.before.before.before.before.before.before.before.before.before.before.before.before.before.before.before.args.list.now c.before.before.before.before.before.before.before.before.before.before.before.before.before.before.before.before.before.before.before.before.before.args.how c.before.before.before.before.before.before.before.before.before.before.before.before.before.before.before.before.before.before.before.before.before.args.kind c.before.before.before.before.before.before.before.before.before.before.before.before.before.before.before.before.before.before.before.before.before.args.room (state_of (nums_of c.before.before.before.before.before.before.before.before.before.before.before.before.before.before.before.before.before.before.before.before.before.args.nums.now) c.before.before.before.before.before.before.before.before.before.before.before.before.before.before.before.before.before.before.before.before.before.args.held.now c.before.before.before.before.before.before.before.before.before.before.before.before.before.before.before.before.before.before.before.before.before.args.counts.now c.before.before.before.before.before.before.before.before.before.before.before.before.before.before.before.before.before.before.before.before.before.args.waiting.now) (sym (c.before.before.before.before.before.before.before.before.before.before.before.before.before.before.fill-refusal.ensures ∙ ap (λ (k : Nums). fill_refusal c.before.before.before.before.before.before.before.before.before.before.before.before.before.before.before.before.before.before.before.before.before.args.tested c.before.before.before.before.before.before.before.before.before.before.before.before.before.before.before.before.before.before.before.before.before.args.list.now 0 (state_of k c.before.before.before.before.before.before.before.before.before.before.before.before.before.before.before.before.before.before.before.before.before.args.held.now c.before.before.before.before.before.before.before.before.before.before.before.before.before.before.before.before.before.before.before.before.before.args.counts.now c.before.before.before.before.before.before.before.before.before.before.before.before.before.before.before.before.before.before.before.before.before.args.waiting.now)) c.before.before.before.before.before.before.before.before.before.before.before.before.before.before.before.before.before.before.nums-of.ensures) ∙ c.before.before.before.before.before.before.before.before.before.before.before.before.before.if1.false) (omega (arith, (c.before.before.before.before.before.before.before.needs.ensures ∙ ap₂ (λ (k : ℕ) (ws : List ℕ). need_by c.before.before.before.before.before.before.before.before.before.before.before.before.before.before.before.before.before.before.before.before.before.args.how c.before.before.before.before.before.before.before.before.before.before.before.before.before.before.before.before.before.before.before.before.before.args.kind k (get_or ws 0 0)) (subst (λ (k : Nums). Fronted c.before.before.before.before.before.before.before.before.before.before.before.before.before.before.before.before.before.before.before.before.before.args.list.now k c.before.before.before.before.before.before.before.before.before.before.before.before.before.before.before.before.before.before.before.before.before.args.held.now c.before.before.before.before.before.before.before.before.before.before.before.before.before.before.before.before.before.before.before.before.before.args.counts.now c.before.before.before.before.before.before.before.before.front_of.result.white (words_of c.before.before.before.before.before.before.before.before.front_of.result.words)) c.before.before.before.before.before.before.before.before.before.before.before.before.before.before.before.before.before.before.nums-of.ensures c.before.before.before.before.before.before.before.before.front_of.ensures.0 c.before.before.before.before.before.before.before.before.before.before.before.before.before.before.before.before.before.before.before.before.before.args.waiting.now).0 (subst (λ (k : Nums). Fronted c.before.before.before.before.before.before.before.before.before.before.before.before.before.before.before.before.before.before.before.before.before.args.list.now k c.before.before.before.before.before.before.before.before.before.before.before.before.before.before.before.before.before.before.before.before.before.args.held.now c.before.before.before.before.before.before.before.before.before.before.before.before.before.before.before.before.before.before.before.before.before.args.counts.now c.before.before.before.before.before.before.before.before.front_of.result.white (words_of c.before.before.before.before.before.before.before.before.front_of.result.words)) c.before.before.before.before.before.before.before.before.before.before.before.before.before.before.before.before.before.before.nums-of.ensures c.before.before.before.before.before.before.before.before.front_of.ensures.0 c.before.before.before.before.before.before.before.before.before.before.before.before.before.before.before.before.before.before.before.before.before.args.waiting.now).1), c.before.before.before.before.before.before.if2.false))) refl, λ z. (fill_emits c.before.before.before.before.before.before.before.before.before.before.before.before.before.before.before.before.before.before.before.before.before.args.list.now (state_of (nums_of c.before.before.before.before.before.before.before.before.before.before.before.before.before.before.before.before.before.before.before.before.before.args.nums.now) c.before.before.before.before.before.before.before.before.before.before.before.before.before.before.before.before.before.before.before.before.before.args.held.now c.before.before.before.before.before.before.before.before.before.before.before.before.before.before.before.before.before.before.before.before.before.args.counts.now c.before.before.before.before.before.before.before.before.before.before.before.before.before.before.before.before.before.before.before.before.before.args.waiting.now) (sound_sum c.before.before.before.before.before.before.before.before.before.before.before.before.before.before.before.before.before.before.before.before.before.args.tested c.before.before.before.before.before.before.before.before.before.before.before.before.before.before.before.before.before.before.before.before.before.args.list.now (state_of (nums_of c.before.before.before.before.before.before.before.before.before.before.before.before.before.before.before.before.before.before.before.before.before.args.nums.now) c.before.before.before.before.before.before.before.before.before.before.before.before.before.before.before.before.before.before.before.before.before.args.held.now c.before.before.before.before.before.before.before.before.before.before.before.before.before.before.before.before.before.before.before.before.before.args.counts.now c.before.before.before.before.before.before.before.before.before.before.before.before.before.before.before.before.before.before.before.before.before.args.waiting.now) (refusal_none c.before.before.before.before.before.before.before.before.before.before.before.before.before.before.before.before.before.before.before.before.before.args.tested c.before.before.before.before.before.before.before.before.before.before.before.before.before.before.before.before.before.before.before.before.before.args.list.now 0 (state_of (nums_of c.before.before.before.before.before.before.before.before.before.before.before.before.before.before.before.before.before.before.before.before.before.args.nums.now) c.before.before.before.before.before.before.before.before.before.before.before.before.before.before.before.before.before.before.before.before.before.args.held.now c.before.before.before.before.before.before.before.before.before.before.before.before.before.before.before.before.before.before.before.before.before.args.counts.now c.before.before.before.before.before.before.before.before.before.before.before.before.before.before.before.before.before.before.before.before.before.args.waiting.now) (sym (c.before.before.before.before.before.before.before.before.before.before.before.before.before.before.fill-refusal.ensures ∙ ap (λ (k : Nums). fill_refusal c.before.before.before.before.before.before.before.before.before.before.before.before.before.before.before.before.before.before.before.before.before.args.tested c.before.before.before.before.before.before.before.before.before.before.before.before.before.before.before.before.before.before.before.before.before.args.list.now 0 (state_of k c.before.before.before.before.before.before.before.before.before.before.before.before.before.before.before.before.before.before.before.before.before.args.held.now c.before.before.before.before.before.before.before.before.before.before.before.before.before.before.before.before.before.before.before.before.before.args.counts.now c.before.before.before.before.before.before.before.before.before.before.before.before.before.before.before.before.before.before.before.before.before.args.waiting.now)) c.before.before.before.before.before.before.before.before.before.before.before.before.before.before.before.before.before.before.nums-of.ensures) ∙ c.before.before.before.before.before.before.before.before.before.before.before.before.before.if1.false)).0) c.before.before.before.before.before.before.before.before.before.before.before.front-of-arg2.given.0 c.before.before.before.before.before.before.before.before.before.front-of-arg4.given.0 (sound_bounded c.before.before.before.before.before.before.before.before.before.before.before.before.before.before.before.before.before.before.before.before.before.args.tested c.before.before.before.before.before.before.before.before.before.before.before.before.before.before.before.before.before.before.before.before.before.args.list.now (state_of (nums_of c.before.before.before.before.before.before.before.before.before.before.before.before.before.before.before.before.before.before.before.before.before.args.nums.now) c.before.before.before.before.before.before.before.before.before.before.before.before.before.before.before.before.before.before.before.before.before.args.held.now c.before.before.before.before.before.before.before.before.before.before.before.before.before.before.before.before.before.before.before.before.before.args.counts.now c.before.before.before.before.before.before.before.before.before.before.before.before.before.before.before.before.before.before.before.before.before.args.waiting.now) (refusal_none c.before.before.before.before.before.before.before.before.before.before.before.before.before.before.before.before.before.before.before.before.before.args.tested c.before.before.before.before.before.before.before.before.before.before.before.before.before.before.before.before.before.before.before.before.before.args.list.now 0 (state_of (nums_of c.before.before.before.before.before.before.before.before.before.before.before.before.before.before.before.before.before.before.before.before.before.args.nums.now) c.before.before.before.before.before.before.before.before.before.before.before.before.before.before.before.before.before.before.before.before.before.args.held.now c.before.before.before.before.before.before.before.before.before.before.before.before.before.before.before.before.before.before.before.before.before.args.counts.now c.before.before.before.before.before.before.before.before.before.before.before.before.before.before.before.before.before.before.before.before.before.args.waiting.now) (sym (c.before.before.before.before.before.before.before.before.before.before.before.before.before.before.fill-refusal.ensures ∙ ap (λ (k : Nums). fill_refusal c.before.before.before.before.before.before.before.before.before.before.before.before.before.before.before.before.before.before.before.before.before.args.tested c.before.before.before.before.before.before.before.before.before.before.before.before.before.before.before.before.before.before.before.before.before.args.list.now 0 (state_of k c.before.before.before.before.before.before.before.before.before.before.before.before.before.before.before.before.before.before.before.before.before.args.held.now c.before.before.before.before.before.before.before.before.before.before.before.before.before.before.before.before.before.before.before.before.before.args.counts.now c.before.before.before.before.before.before.before.before.before.before.before.before.before.before.before.before.before.before.before.before.before.args.waiting.now)) c.before.before.before.before.before.before.before.before.before.before.before.before.before.before.before.before.before.before.nums-of.ensures) ∙ c.before.before.before.before.before.before.before.before.before.before.before.before.before.if1.false)).0).wait-in))
+returns-3 c = (room_done c.before.before.before.before.before.before.before.before.before.before.before.before.before.before.before.before.before.before.before.before.before.args.tested c.before.before.before.before.before.before.before.before.before.before.before.before.before.before.before.before.before.before.before.before.before.args.list.now c.before.before.before.before.before.before.before.before.before.before.before.before.before.before.before.before.before.before.before.before.before.args.how c.before.before.before.before.before.before.before.before.before.before.before.before.before.before.before.before.before.before.before.before.before.args.kind c.before.before.before.before.before.before.before.before.before.before.before.before.before.before.before.before.before.before.before.before.before.args.room (state_of (nums_of c.before.before.before.before.before.before.before.before.before.before.before.before.before.before.before.before.before.before.before.before.before.args.nums.now) c.before.before.before.before.before.before.before.before.before.before.before.before.before.before.before.before.before.before.before.before.before.args.held.now c.before.before.before.before.before.before.before.before.before.before.before.before.before.before.before.before.before.before.before.before.before.args.counts.now c.before.before.before.before.before.before.before.before.before.before.before.before.before.before.before.before.before.before.before.before.before.args.waiting.now) (sym (c.before.before.before.before.before.before.before.before.before.before.before.before.before.before.fill-refusal.ensures ∙ ap (λ (k : Nums). fill_refusal c.before.before.before.before.before.before.before.before.before.before.before.before.before.before.before.before.before.before.before.before.before.args.tested c.before.before.before.before.before.before.before.before.before.before.before.before.before.before.before.before.before.before.before.before.before.args.list.now 0 (state_of k c.before.before.before.before.before.before.before.before.before.before.before.before.before.before.before.before.before.before.before.before.before.args.held.now c.before.before.before.before.before.before.before.before.before.before.before.before.before.before.before.before.before.before.before.before.before.args.counts.now c.before.before.before.before.before.before.before.before.before.before.before.before.before.before.before.before.before.before.before.before.before.args.waiting.now)) c.before.before.before.before.before.before.before.before.before.before.before.before.before.before.before.before.before.before.nums-of.ensures) ∙ c.before.before.before.before.before.before.before.before.before.before.before.before.before.if1.false) (omega (arith, (c.before.before.before.before.before.before.before.needs.ensures ∙ ap₂ (λ (k : ℕ) (ws : List ℕ). need_by c.before.before.before.before.before.before.before.before.before.before.before.before.before.before.before.before.before.before.before.before.before.args.how c.before.before.before.before.before.before.before.before.before.before.before.before.before.before.before.before.before.before.before.before.before.args.kind k (get_or ws 0 0)) (subst (λ (k : Nums). Fronted c.before.before.before.before.before.before.before.before.before.before.before.before.before.before.before.before.before.before.before.before.before.args.list.now k c.before.before.before.before.before.before.before.before.before.before.before.before.before.before.before.before.before.before.before.before.before.args.held.now c.before.before.before.before.before.before.before.before.before.before.before.before.before.before.before.before.before.before.before.before.before.args.counts.now c.before.before.before.before.before.before.before.before.front_of.result.white (words_of c.before.before.before.before.before.before.before.before.front_of.result.words)) c.before.before.before.before.before.before.before.before.before.before.before.before.before.before.before.before.before.before.nums-of.ensures c.before.before.before.before.before.before.before.before.front_of.ensures.0 c.before.before.before.before.before.before.before.before.before.before.before.before.before.before.before.before.before.before.before.before.before.args.waiting.now).0 (subst (λ (k : Nums). Fronted c.before.before.before.before.before.before.before.before.before.before.before.before.before.before.before.before.before.before.before.before.before.args.list.now k c.before.before.before.before.before.before.before.before.before.before.before.before.before.before.before.before.before.before.before.before.before.args.held.now c.before.before.before.before.before.before.before.before.before.before.before.before.before.before.before.before.before.before.before.before.before.args.counts.now c.before.before.before.before.before.before.before.before.front_of.result.white (words_of c.before.before.before.before.before.before.before.before.front_of.result.words)) c.before.before.before.before.before.before.before.before.before.before.before.before.before.before.before.before.before.before.nums-of.ensures c.before.before.before.before.before.before.before.before.front_of.ensures.0 c.before.before.before.before.before.before.before.before.before.before.before.before.before.before.before.before.before.before.before.before.before.args.waiting.now).1), c.before.before.before.before.before.before.if2.false)), c.gathers-at.ensures ∙ ap (λ (k : ℕ). gathers c.before.before.before.before.before.before.before.before.before.before.before.before.before.before.before.before.before.before.before.before.before.args.list.now k (state_of (nums_of c.before.before.before.before.before.before.before.before.before.before.before.before.before.before.before.before.before.before.before.before.before.args.nums.now) c.before.before.before.before.before.before.before.before.before.before.before.before.before.before.before.before.before.before.before.before.before.args.held.now c.before.before.before.before.before.before.before.before.before.before.before.before.before.before.before.before.before.before.before.before.before.args.counts.now c.before.before.before.before.before.before.before.before.before.before.before.before.before.before.before.before.before.before.before.before.before.args.waiting.now)) (c.before.lacks.ensures ∙ ap (λ (k : Nums). 1 - k.held_len) c.before.before.before.before.before.before.before.before.before.before.before.before.before.before.before.before.before.before.nums-of.ensures) ∙ room_filled c.before.before.before.before.before.before.before.before.before.before.before.before.before.before.before.before.before.before.before.before.before.args.tested c.before.before.before.before.before.before.before.before.before.before.before.before.before.before.before.before.before.before.before.before.before.args.list.now c.before.before.before.before.before.before.before.before.before.before.before.before.before.before.before.before.before.before.before.before.before.args.how c.before.before.before.before.before.before.before.before.before.before.before.before.before.before.before.before.before.before.before.before.before.args.kind c.before.before.before.before.before.before.before.before.before.before.before.before.before.before.before.before.before.before.before.before.before.args.room (state_of (nums_of c.before.before.before.before.before.before.before.before.before.before.before.before.before.before.before.before.before.before.before.before.before.args.nums.now) c.before.before.before.before.before.before.before.before.before.before.before.before.before.before.before.before.before.before.before.before.before.args.held.now c.before.before.before.before.before.before.before.before.before.before.before.before.before.before.before.before.before.before.before.before.before.args.counts.now c.before.before.before.before.before.before.before.before.before.before.before.before.before.before.before.before.before.before.before.before.before.args.waiting.now) 0 (room_done c.before.before.before.before.before.before.before.before.before.before.before.before.before.before.before.before.before.before.before.before.before.args.tested c.before.before.before.before.before.before.before.before.before.before.before.before.before.before.before.before.before.before.before.before.before.args.list.now c.before.before.before.before.before.before.before.before.before.before.before.before.before.before.before.before.before.before.before.before.before.args.how c.before.before.before.before.before.before.before.before.before.before.before.before.before.before.before.before.before.before.before.before.before.args.kind c.before.before.before.before.before.before.before.before.before.before.before.before.before.before.before.before.before.before.before.before.before.args.room (state_of (nums_of c.before.before.before.before.before.before.before.before.before.before.before.before.before.before.before.before.before.before.before.before.before.args.nums.now) c.before.before.before.before.before.before.before.before.before.before.before.before.before.before.before.before.before.before.before.before.before.args.held.now c.before.before.before.before.before.before.before.before.before.before.before.before.before.before.before.before.before.before.before.before.before.args.counts.now c.before.before.before.before.before.before.before.before.before.before.before.before.before.before.before.before.before.before.before.before.before.args.waiting.now) (sym (c.before.before.before.before.before.before.before.before.before.before.before.before.before.before.fill-refusal.ensures ∙ ap (λ (k : Nums). fill_refusal c.before.before.before.before.before.before.before.before.before.before.before.before.before.before.before.before.before.before.before.before.before.args.tested c.before.before.before.before.before.before.before.before.before.before.before.before.before.before.before.before.before.before.before.before.before.args.list.now 0 (state_of k c.before.before.before.before.before.before.before.before.before.before.before.before.before.before.before.before.before.before.before.before.before.args.held.now c.before.before.before.before.before.before.before.before.before.before.before.before.before.before.before.before.before.before.before.before.before.args.counts.now c.before.before.before.before.before.before.before.before.before.before.before.before.before.before.before.before.before.before.before.before.before.args.waiting.now)) c.before.before.before.before.before.before.before.before.before.before.before.before.before.before.before.before.before.before.nums-of.ensures) ∙ c.before.before.before.before.before.before.before.before.before.before.before.before.before.if1.false) (omega (arith, (c.before.before.before.before.before.before.before.needs.ensures ∙ ap₂ (λ (k : ℕ) (ws : List ℕ). need_by c.before.before.before.before.before.before.before.before.before.before.before.before.before.before.before.before.before.before.before.before.before.args.how c.before.before.before.before.before.before.before.before.before.before.before.before.before.before.before.before.before.before.before.before.before.args.kind k (get_or ws 0 0)) (subst (λ (k : Nums). Fronted c.before.before.before.before.before.before.before.before.before.before.before.before.before.before.before.before.before.before.before.before.before.args.list.now k c.before.before.before.before.before.before.before.before.before.before.before.before.before.before.before.before.before.before.before.before.before.args.held.now c.before.before.before.before.before.before.before.before.before.before.before.before.before.before.before.before.before.before.before.before.before.args.counts.now c.before.before.before.before.before.before.before.before.front_of.result.white (words_of c.before.before.before.before.before.before.before.before.front_of.result.words)) c.before.before.before.before.before.before.before.before.before.before.before.before.before.before.before.before.before.before.nums-of.ensures c.before.before.before.before.before.before.before.before.front_of.ensures.0 c.before.before.before.before.before.before.before.before.before.before.before.before.before.before.before.before.before.before.before.before.before.args.waiting.now).0 (subst (λ (k : Nums). Fronted c.before.before.before.before.before.before.before.before.before.before.before.before.before.before.before.before.before.before.before.before.before.args.list.now k c.before.before.before.before.before.before.before.before.before.before.before.before.before.before.before.before.before.before.before.before.before.args.held.now c.before.before.before.before.before.before.before.before.before.before.before.before.before.before.before.before.before.before.before.before.before.args.counts.now c.before.before.before.before.before.before.before.before.front_of.result.white (words_of c.before.before.before.before.before.before.before.before.front_of.result.words)) c.before.before.before.before.before.before.before.before.before.before.before.before.before.before.before.before.before.before.nums-of.ensures c.before.before.before.before.before.before.before.before.front_of.ensures.0 c.before.before.before.before.before.before.before.before.before.before.before.before.before.before.before.before.before.before.before.before.before.args.waiting.now).1), c.before.before.before.before.before.before.if2.false))) refl, λ z. (fill_emits c.before.before.before.before.before.before.before.before.before.before.before.before.before.before.before.before.before.before.before.before.before.args.list.now (state_of (nums_of c.before.before.before.before.before.before.before.before.before.before.before.before.before.before.before.before.before.before.before.before.before.args.nums.now) c.before.before.before.before.before.before.before.before.before.before.before.before.before.before.before.before.before.before.before.before.before.args.held.now c.before.before.before.before.before.before.before.before.before.before.before.before.before.before.before.before.before.before.before.before.before.args.counts.now c.before.before.before.before.before.before.before.before.before.before.before.before.before.before.before.before.before.before.before.before.before.args.waiting.now) (sound_sum c.before.before.before.before.before.before.before.before.before.before.before.before.before.before.before.before.before.before.before.before.before.args.tested c.before.before.before.before.before.before.before.before.before.before.before.before.before.before.before.before.before.before.before.before.before.args.list.now (state_of (nums_of c.before.before.before.before.before.before.before.before.before.before.before.before.before.before.before.before.before.before.before.before.before.args.nums.now) c.before.before.before.before.before.before.before.before.before.before.before.before.before.before.before.before.before.before.before.before.before.args.held.now c.before.before.before.before.before.before.before.before.before.before.before.before.before.before.before.before.before.before.before.before.before.args.counts.now c.before.before.before.before.before.before.before.before.before.before.before.before.before.before.before.before.before.before.before.before.before.args.waiting.now) (refusal_none c.before.before.before.before.before.before.before.before.before.before.before.before.before.before.before.before.before.before.before.before.before.args.tested c.before.before.before.before.before.before.before.before.before.before.before.before.before.before.before.before.before.before.before.before.before.args.list.now 0 (state_of (nums_of c.before.before.before.before.before.before.before.before.before.before.before.before.before.before.before.before.before.before.before.before.before.args.nums.now) c.before.before.before.before.before.before.before.before.before.before.before.before.before.before.before.before.before.before.before.before.before.args.held.now c.before.before.before.before.before.before.before.before.before.before.before.before.before.before.before.before.before.before.before.before.before.args.counts.now c.before.before.before.before.before.before.before.before.before.before.before.before.before.before.before.before.before.before.before.before.before.args.waiting.now) (sym (c.before.before.before.before.before.before.before.before.before.before.before.before.before.before.fill-refusal.ensures ∙ ap (λ (k : Nums). fill_refusal c.before.before.before.before.before.before.before.before.before.before.before.before.before.before.before.before.before.before.before.before.before.args.tested c.before.before.before.before.before.before.before.before.before.before.before.before.before.before.before.before.before.before.before.before.before.args.list.now 0 (state_of k c.before.before.before.before.before.before.before.before.before.before.before.before.before.before.before.before.before.before.before.before.before.args.held.now c.before.before.before.before.before.before.before.before.before.before.before.before.before.before.before.before.before.before.before.before.before.args.counts.now c.before.before.before.before.before.before.before.before.before.before.before.before.before.before.before.before.before.before.before.before.before.args.waiting.now)) c.before.before.before.before.before.before.before.before.before.before.before.before.before.before.before.before.before.before.nums-of.ensures) ∙ c.before.before.before.before.before.before.before.before.before.before.before.before.before.if1.false)).0) c.before.before.before.before.before.before.before.before.before.before.before.front-of-arg2.given.0 c.before.before.before.before.before.before.before.before.before.front-of-arg4.given.0 (sound_bounded c.before.before.before.before.before.before.before.before.before.before.before.before.before.before.before.before.before.before.before.before.before.args.tested c.before.before.before.before.before.before.before.before.before.before.before.before.before.before.before.before.before.before.before.before.before.args.list.now (state_of (nums_of c.before.before.before.before.before.before.before.before.before.before.before.before.before.before.before.before.before.before.before.before.before.args.nums.now) c.before.before.before.before.before.before.before.before.before.before.before.before.before.before.before.before.before.before.before.before.before.args.held.now c.before.before.before.before.before.before.before.before.before.before.before.before.before.before.before.before.before.before.before.before.before.args.counts.now c.before.before.before.before.before.before.before.before.before.before.before.before.before.before.before.before.before.before.before.before.before.args.waiting.now) (refusal_none c.before.before.before.before.before.before.before.before.before.before.before.before.before.before.before.before.before.before.before.before.before.args.tested c.before.before.before.before.before.before.before.before.before.before.before.before.before.before.before.before.before.before.before.before.before.args.list.now 0 (state_of (nums_of c.before.before.before.before.before.before.before.before.before.before.before.before.before.before.before.before.before.before.before.before.before.args.nums.now) c.before.before.before.before.before.before.before.before.before.before.before.before.before.before.before.before.before.before.before.before.before.args.held.now c.before.before.before.before.before.before.before.before.before.before.before.before.before.before.before.before.before.before.before.before.before.args.counts.now c.before.before.before.before.before.before.before.before.before.before.before.before.before.before.before.before.before.before.before.before.before.args.waiting.now) (sym (c.before.before.before.before.before.before.before.before.before.before.before.before.before.before.fill-refusal.ensures ∙ ap (λ (k : Nums). fill_refusal c.before.before.before.before.before.before.before.before.before.before.before.before.before.before.before.before.before.before.before.before.before.args.tested c.before.before.before.before.before.before.before.before.before.before.before.before.before.before.before.before.before.before.before.before.before.args.list.now 0 (state_of k c.before.before.before.before.before.before.before.before.before.before.before.before.before.before.before.before.before.before.before.before.before.args.held.now c.before.before.before.before.before.before.before.before.before.before.before.before.before.before.before.before.before.before.before.before.before.args.counts.now c.before.before.before.before.before.before.before.before.before.before.before.before.before.before.before.before.before.before.before.before.before.args.waiting.now)) c.before.before.before.before.before.before.before.before.before.before.before.before.before.before.before.before.before.before.nums-of.ensures) ∙ c.before.before.before.before.before.before.before.before.before.before.before.before.before.if1.false)).0).wait_in))
 
 pub front-slow-spec : {M : Type 1} → statement M
 front-slow-spec =

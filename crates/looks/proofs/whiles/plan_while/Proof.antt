@@ -20,7 +20,7 @@ loop-holds : tie.Need-loop-init invariant-loop decreases-loop
 loop-holds c = (c.before.before.before.requires, turning_first c.before.before.before.args.list.now c.before.before.before.args.kind c.before.before.before.args.held.now c.before.before.before.args.counts.now _ c.before.before.before.requires)
 
 front-of-requires : tie.Need-front-of-requires invariant-loop decreases-loop
-front-of-requires c κs = (c.loop.invariant.0.reach, c.loop.invariant.0.wait-few, c.loop.invariant.0.held-size, c.loop.invariant.0.counts-size)
+front-of-requires c κs = (c.loop.invariant.0.reach, c.loop.invariant.0.wait_few, c.loop.invariant.0.held_size, c.loop.invariant.0.counts_size)
 
 filled-nums-requires : tie.Need-filled-nums-requires invariant-loop decreases-loop
 filled-nums-requires c κs = (c.before.loop.invariant.0.reach, plannable_roomy c.before.before.before.before.before.args.list.now c.before.loop.m c.before.before.before.before.before.args.held.now c.before.before.before.before.before.args.counts.now c.before.loop.invariant.0)
