@@ -7,7 +7,6 @@ use native.Mathlib.Omega.{arith}
 use lib.ListN.{drop, get_or, length}
 use borrow.Author.Tests.{le-leb, lt-leb}
 use Rattle.laws.proofs.Cases.{both_false, split_eq, split_le}
-use Rattle.laws.specs.Bools.{same}
 use Rattle.source_test.specs.Blocks.{AtMost, Passed, len_of}
 use Rattle.source_test.specs.Source.{sound_to}
 use Rattle.text.proofs.Decode.{Step, after_end, after_step, by_first, end_first, first_at, lead_at, step_ascii, step_first}

@@ -1,6 +1,5 @@
 -- What the code of the tests says of a block of bytes. It serves the proofs and is no rule of document 01.
 use Rattle.std.specs.Prelude.{ℕ, suc, ◌+◌, ◌≤◌, ◌<◌, ◌≡◌, List, [], get_or, length}
-use Rattle.laws.specs.Bools.{same}
 use Rattle.text.specs.Utf8.{Lead, after, bad, rest, seq}
 
 -- how many bytes a sequence has, 0 where it is ill-formed
