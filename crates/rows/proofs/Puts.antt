@@ -7,7 +7,6 @@ use lib.Seq.{length-sets, sets}
 use lib.ListN.{drop, length, length-append}
 use borrow.Author.Tests.{le-leb, lt-leb}
 use Rattle.laws.proofs.Sets.{sets_append}
-use Rattle.laws.specs.Bools.{same}
 use Rattle.rows.proofs.Rows.{Left, rows_end, rows_more, rows_whole, rows_from}
 use Rattle.rows.specs.Rows.{Row, rows_of, stored_in, unless_refused}
 use Rattle.rows.specs.declared.Checked.{Checked}
