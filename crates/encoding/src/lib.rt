@@ -30,6 +30,7 @@ fn tail_byte(v: u32) -> u8
     (0x80 + v % 64) as u8
 }
 
+#[tactic(auto, using(crate::proofs::Rows::encoded_1, crate::proofs::Rows::encoded_2))]
 pub fn encode(v: u32) -> Encoded
     ensures { result ≡ encoded_of v }
 {
