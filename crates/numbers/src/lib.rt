@@ -6,6 +6,7 @@ ghost use Rattle.numbers.specs.Kinds.{number_of};
 
 use token::{Bracket, Kind};
 
+#[tactic(auto, unfolding(crate::specs::Kinds::number_of))]
 pub fn number_of(kind: Kind) -> u32
     ensures { result ≡ number_of kind }
 {
