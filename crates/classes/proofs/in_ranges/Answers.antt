@@ -1,6 +1,4 @@
-use Prim.Native.Nat.{◌-◌}
 use mathlib.Core.Path.{refl, sym, ◌∙◌}
-use mathlib.Core.Bool.{true}
 use native.Mathlib.Omega.{arith}
 use Rattle.laws.proofs.Ranges.{ordered_next, ranges_above, ranges_below, ranges_end, ranges_hit}
 use Rattle.classes.proofs.in_ranges.Goals as goal

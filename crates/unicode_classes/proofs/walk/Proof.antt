@@ -4,8 +4,8 @@ use Prim.Native.Nat.{◌-◌, ◌≤◌}
 use mathlib.Core.Logic.{⊎_elim}
 use native.Mathlib.Omega.{arith}
 use borrow.Author.Rules.{rules}
-use Rattle.unicode.proofs.walk.Statement.{statement}
-use Rattle.unicode.proofs.walk.Tie as tie
+use Rattle.unicode_classes.proofs.walk.Statement.{statement}
+use Rattle.unicode_classes.proofs.walk.Tie as tie
 
 abbrev invariant-loop : tie.invariant-loop
 invariant-loop class low high count₀ inside₀ start₀ last₀ v₀ count inside start last v = (count ≤ v) × (count ≤ high)
