@@ -1,14 +1,15 @@
 -- What the code's tests say of each escape, at a place of a source, in the order of the definitions. Assumes nothing.
-use Prim.Native.Nat.{ℕ, ◌+◌, ◌*◌, ◌<◌}
+use Prim.Native.Nat.{ℕ, ◌+◌, ◌*◌, ◌<◌, ◌≤◌}
 use mathlib.Core.Path.{◌≡◌, refl, sym, ap, subst}
 use mathlib.Core.List.{List, []}
 use mathlib.Core.Bool.{Bool, true, false}
 use native.Mathlib.Omega.{arith}
-use borrow.Author.Tests.{eq-eqb, ne_eqb}
+use borrow.Author.Tests.{eq-eqb, le-leb, ne_eqb}
 use Rattle.classes.specs.Classes.{is_white_space}
 use Rattle.classes.specs.Digits.{hex_value, is_digit, is_hex_digit, is_high_hex, is_low_hex}
 use Rattle.encoding.specs.Encode.{is_scalar}
-use Rattle.escapes.specs.Escapes.{byte_escape, byte_turn, char_escape, char_turn, close_of, digits_of, hex_of, hex_second, only_in_template, shared_of, shift_in, skip_white, unicode_of}
+use Rattle.escapes.specs.Escapes.{byte_escape, byte_turn, char_escape, char_turn, close_of, digits_of, hex_of, hex_second, low_only, only_in_template, shared_of, shift_in, skip_white, unicode_of}
+use Rattle.escapes.specs.declared.Escape.{Escape}
 use Rattle.escapes.specs.declared.Escape.TheVariants.{Bad, Item}
 use Rattle.laws.proofs.Cases.{split, within_inv}
 use Rattle.text.proofs.Decode.{Step}
@@ -112,6 +113,9 @@ close_yes b x p h k = rw (h, k)
 pub close_no : (b : Bool) (x p : ℕ) → is_scalar x ≡ false → Bad 22 p ≡ close_of b x p
 close_no true x p k = rw k
 close_no false x p k = refl
+
+pub low_yes : (e : Escape) (x p : ℕ) → e ≡ Item x p → x ≤ 0x7f → Item x p ≡ low_only e
+low_yes e x p h k = rw (h, le-leb x 0x7f k)
 
 pub shared_none : (v p : ℕ) → (v ≡ 0x27 → ⊥) → (v ≡ 0x22 → ⊥) → (v ≡ 0x6e → ⊥) → (v ≡ 0x72 → ⊥) → (v ≡ 0x74 → ⊥) → (v ≡ 0x5c → ⊥) → (v ≡ 0x30 → ⊥) → Bad 20 p ≡ shared_of v p
 unfolding shared_of

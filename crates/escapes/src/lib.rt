@@ -123,6 +123,7 @@ pub fn parse_char_escape(s: &[u8], at: usize, template: bool, lines: bool) -> Es
 }
 
 // In text `\x` goes to 7f.
+#[tactic(auto, using(crate::proofs::Escapes::low_yes))]
 fn low_only(e: Escape) -> Escape
     ensures { result ≡ low_only e }
 {
