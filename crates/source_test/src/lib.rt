@@ -13,7 +13,7 @@ use token::Refusal;
 use token::refusal::{ILL_FORMED, NO_PLACE, TOO_LONG};
 
 // A source, or a position in one, that may be read; or why it may not.
-#[derive(Drop)]
+#[derive(Clone, Copy)]
 pub enum Tested {
     Sound,
     Unsound { refusal: Refusal },

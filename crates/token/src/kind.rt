@@ -1,7 +1,7 @@
 // Kinds of tokens in document 01's order.
 
 // Which bracket was opened or closed: `( )`, `[ ]` or `{ }`.
-#[derive(Drop)]
+#[derive(Clone, Copy)]
 pub enum Bracket {
     Round,
     Square,
@@ -9,7 +9,7 @@ pub enum Bracket {
 }
 
 // A kind with its data. A template's kind says whether a backtick closed it, and its number does not.
-#[derive(Drop)]
+#[derive(Clone, Copy)]
 pub enum Kind {
     Whitespace,
     Comment,
@@ -74,7 +74,7 @@ pub enum Kind {
 }
 
 // A kind, or none: what a number or some characters stand for.
-#[derive(Drop)]
+#[derive(Clone, Copy)]
 pub enum Known {
     Is { kind: Kind },
     Unknown,

@@ -5,26 +5,26 @@ ghost use Rattle.token.specs.Reads.{got_of, point_refusal, refusal_in, refused_o
 use crate::kind::Kind;
 
 // Bytes from start to before end; a point where the two are equal.
-#[derive(Drop)]
+#[derive(Clone, Copy)]
 pub struct Span {
     pub start: usize,
     pub end: usize,
 }
 
-#[derive(Drop)]
+#[derive(Clone, Copy)]
 pub struct Token {
     pub kind: Kind,
     pub span: Span,
 }
 
-#[derive(Drop)]
+#[derive(Clone, Copy)]
 pub struct Refusal {
     pub number: u32,
     pub span: Span,
     pub reached: usize,
 }
 
-#[derive(Drop)]
+#[derive(Clone, Copy)]
 pub enum Read {
     Got { token: Token },
     Refused { refusal: Refusal },
