@@ -20,10 +20,10 @@ returns-in_default c = ap (λ (o : Stop (Unit {0})). o.place) (goes_end (run_ste
 
 pub returns-then-not-is_xid_continue : goal.returns-then-not-is_xid_continue
 unfolding run
-returns-then-not-is_xid_continue c = ap (λ (o : Stop (Unit {0})). o.place) (goes_before (run_step is_xid_continue) _ _ _ _ c.loop-value.invariant _ _ (step_one c.args.s.now c.loop-value.p c.in-One.value c.in-One.next (sym c.scalar_at.ensures ∙ c.in-One.is)) tt (run_no is_xid_continue c.in-One.value (rest c.args.s.now c.in-One.next) (sym c.is_xid_continue.ensures ∙ not-true _ c.if-not-is_xid_continue.true-raw)))
+returns-then-not-is_xid_continue c = ap (λ (o : Stop (Unit {0})). o.place) (goes_before (run_step is_xid_continue) _ _ _ _ c.loop-value.invariant _ _ (step_one c.args.s.now c.loop-value.p c.in-One.value c.in-One.next (sym c.scalar_at.ensures ∙ c.in-One.is)) tt (run_no is_xid_continue c.in-One.value (rest c.args.s.now c.in-One.next) (sym c.is_xid_continue.ensures ∙ c.if-not-is_xid_continue.true)))
 
 pub loop-value-smaller : goal.loop-value-smaller
 loop-value-smaller c = let t = (step_one c.args.s.now c.loop-value.p c.in-One.value c.in-One.next (sym c.scalar_at.ensures ∙ c.in-One.is)) in omega arith
 
 pub loop-value-preserved : goal.loop-value-preserved
-loop-value-preserved c = goes_on (run_step is_xid_continue) _ _ _ _ c.loop-value.invariant _ _ (step_one c.args.s.now c.loop-value.p c.in-One.value c.in-One.next (sym c.scalar_at.ensures ∙ c.in-One.is)) tt (run_yes is_xid_continue c.in-One.value (rest c.args.s.now c.in-One.next) (sym c.is_xid_continue.ensures ∙ not-false _ c.if-not-is_xid_continue.false-raw))
+loop-value-preserved c = goes_on (run_step is_xid_continue) _ _ _ _ c.loop-value.invariant _ _ (step_one c.args.s.now c.loop-value.p c.in-One.value c.in-One.next (sym c.scalar_at.ensures ∙ c.in-One.is)) tt (run_yes is_xid_continue c.in-One.value (rest c.args.s.now c.in-One.next) (sym c.is_xid_continue.ensures ∙ c.if-not-is_xid_continue.false))
