@@ -9,7 +9,6 @@ use lib.ListN.{get_or, length, length-append}
 use borrow.Author.Tests.{eq-eqb, lt-leb, ne_eqb}
 use Rattle.laws.proofs.Cases.{never, split, split_eq, split_le}
 use Rattle.laws.proofs.Sets.{sets_append}
-use Rattle.laws.specs.Bools.{same}
 use Rattle.looks.proofs.Answers.{refusal_none}
 use Rattle.looks.proofs.Turns.{front_length, front_state, front_words_law, nth_length}
 use Rattle.looks.specs.Buffer.{State, fits_for, ring_at}

@@ -25,7 +25,7 @@ abbrev Ready : List ℕ → ℕ → Nums → Type 0
 Ready l times m = (m.next ≤ token_count l) × Roomy m × (m.held_len + times ≤ 8) × (m.wait_len ≤ 256)
 
 pub ready_for : (l : List ℕ) (m : Nums) (most times : ℕ) → Bounded l m → most ≤ 8 → times ≡ most - m.held_len → Ready l times m
-ready_for l m most times b h e = (b.reach, record { held_in = b.held_in; wait-in = b.wait_in; held-few = b.held_few; wait-few = omega arith }, omega arith, b.wait_few)
+ready_for l m most times b h e = (b.reach, record { held_in = b.held_in; wait_in = b.wait_in; held_few = b.held_few; wait_few = omega arith }, omega arith, b.wait_few)
 
 pub gather_ready : (l : List ℕ) (m : Nums) (most times : ℕ) → Bounded l m → most ≤ 8 → times ≡ most - m.held_len → fits_for l (most - m.held_len) m ≡ true → Gatherable l times m
 gather_ready l m most times b h e f =

@@ -8,7 +8,6 @@ use lib.Dec.{leb, ltb}
 use lib.ListN.{get_or, length, set}
 use borrow.Author.Tests.{le-leb, le-ltb, leb-true, lt-leb, lt-ltb}
 use Rattle.laws.proofs.Cases.{both_inv, both_true, split, split_le}
-use Rattle.laws.specs.Bools.{same}
 use Rattle.looks.proofs.Numbers.{count_bound, dark_bound}
 use Rattle.looks.proofs.Six.{six_last, six_more}
 use Rattle.looks.specs.Buffer.{Gatherable, Roomy, State, fits_for, gather, gather_at, gather_nums, gather_to, gathers, keeps, nums_of, queued, state_of, white_to}
@@ -40,7 +39,7 @@ module _ (p count : ℕ) (m : Nums) where
 
   pub gather_roomy : Roomy m → m.held_len < 8 → (gather_to p count m).wait_len ≤ 1099511627776 → Roomy (gather_to p count m)
   unfolding gather_to
-  gather_roomy r h w = let k = gather_held.0 in record { held_in = r.held_in; wait-in = r.wait_in; held-few = omega arith; wait-few = w }
+  gather_roomy r h w = let k = gather_held.0 in record { held_in = r.held_in; wait_in = r.wait_in; held_few = omega arith; wait_few = w }
 
 pub queued_more : (ring : List ℕ) (at i count j : ℕ) → j < count → queued (count - j) ring (at + j) (i + j) ≡ queued (count - (j + 1)) (set ring ((at + j) % 256) (i + j)) (at + (j + 1)) (i + (j + 1))
 unfolding queued

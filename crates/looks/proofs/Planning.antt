@@ -9,7 +9,7 @@ use lib.Dec.{leb, ltb, eqb}
 use lib.ListN.{get_or, length}
 use borrow.Author.Tests.{eq-eqb, le-leb, le-ltb, lt-leb, lt-ltb, ne_eqb}
 use Rattle.laws.proofs.Cases.{both_false, both_true, split_eq, split_le}
-use Rattle.laws.specs.Bools.{both, pick, same}
+use Rattle.laws.specs.Bools.{both, pick}
 use Rattle.looks.proofs.Advances.{less_facts, sum_mod}
 use Rattle.looks.proofs.Fronts.{fill_held, front_held}
 use Rattle.looks.proofs.Numbers.{count_bound, dark_bound}
@@ -56,7 +56,7 @@ turning_first l kind held counts m b w =
     }
 
 pub plannable_roomy : (l : List ℕ) (m : Nums) (held counts : List ℕ) → Plannable l m held counts → Roomy m
-plannable_roomy l m held counts b = record { held_in = b.held_in; wait-in = b.wait_in; held-few = b.held_few; wait-few = let w = b.wait_few in omega arith }
+plannable_roomy l m held counts b = record { held_in = b.held_in; wait_in = b.wait_in; held_few = b.held_few; wait_few = let w = b.wait_few in omega arith }
 
 module _ (l : List ℕ) (kind : ℕ) (held counts : List ℕ) (m : Nums) (b : Plannable l m held counts)
     (white : ℕ) (words : List ℕ) (fr : Fronted l m held counts white words) (f : Nums) (fn : f ≡ fill_nums l m) where
@@ -155,13 +155,13 @@ module _ (l : List ℕ) (kind : ℕ) (held counts : List ℕ) (m : Nums) (b : Pl
         let hf = b.held_few in
         record {
           reach = fewer.1;
-          held-few =
+          held_few =
               split_eq m.held_len 0
               (λ none. let o = one_found none in omega (arith, o.0))
               (λ held₁. let h = ap (λ (q : Nums). q.held_len) (kept held₁) in omega arith);
-          wait-few = omega arith;
+          wait_few = omega arith;
           held_in = omega arith;
-          wait-in = omega arith;
+          wait_in = omega arith;
           held_size = b.held_size;
           counts_size = b.counts_size;
           sum = sum_after;

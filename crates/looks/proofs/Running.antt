@@ -10,7 +10,7 @@ use lib.ListN.{get_or, length, length-append}
 use borrow.Author.Tests.{eq-eqb, le-ltb, leb-true, lt-ltb, ltb-true, ne_eqb}
 use Rattle.laws.proofs.Cases.{both_false, both_inv, never, split, split_eq, split_le}
 use Rattle.laws.proofs.Sets.{sets_append}
-use Rattle.laws.specs.Bools.{both, pick, same}
+use Rattle.laws.specs.Bools.{both, pick}
 use Rattle.looks.proofs.Answers.{gather_ready, sound_bounded}
 use Rattle.looks.proofs.Fronts.{fill_held, fill_none}
 use Rattle.looks.proofs.Gathers.{gather_held}
@@ -23,7 +23,7 @@ use Rattle.looks.specs.Buffer.{Gatherable, State, fill, fits, fits_for, gather_a
 use Rattle.looks.specs.Calls.{bumped, shows, stored_by}
 use Rattle.looks.specs.Front.{Fronted, front_white, front_words, nth_of, wait_words, white_of}
 use Rattle.looks.specs.Numbered.{dark, token_count}
-use Rattle.looks.specs.Sound.{count_sum, good, sound_by}
+use Rattle.looks.specs.Sound.{count_sum, sound_by}
 use Rattle.looks.specs.While.{Plannable, Run, bump_while_by, emits_then, fill_nums, goes_on, plan_of, run_of, stops, tokens_left, while_plan, while_refusal, while_run, while_turn}
 use Rattle.looks.specs.declared.state.Nums.{Nums}
 use Rattle.looks.specs.declared.whiles.Plan.{Plan}
@@ -36,12 +36,12 @@ good_sound t l st s h c =
     let b = sound_bounded t l st s in
     record {
       reach = b.reach;
-      held-few = b.held_few;
-      wait-few = b.wait_few;
+      held_few = b.held_few;
+      wait_few = b.wait_few;
       held_in = b.held_in;
-      wait-in = b.wait_in;
-      held-size = h;
-      counts-size = c;
+      wait_in = b.wait_in;
+      held_size = h;
+      counts_size = c;
       sum = sound_sum t l st s;
     }
 
@@ -88,12 +88,12 @@ module _ (l : List ℕ) (st : State) (b : Steady l st) where
       let wi = b.wait_in in
       record {
         reach = omega (arith, g.1 d.1);
-        held-few = omega (arith, g.0);
-        wait-few = omega arith;
+        held_few = omega (arith, g.0);
+        wait_few = omega arith;
         held_in = omega (arith, ap (λ (n : Nums). n.held_at) e);
-        wait-in = omega (arith, ap (λ (n : Nums). n.wait_at) e);
-        held-size = sizes.0;
-        counts-size = sizes.1;
+        wait_in = omega (arith, ap (λ (n : Nums). n.wait_at) e);
+        held_size = sizes.0;
+        counts_size = sizes.1;
         sum =
             split_le (token_count l) p₁
             (λ h.
@@ -150,7 +150,7 @@ module _ (l : List ℕ) (kind : ℕ) (run : Run) (out₀ out : List ℕ) (f : St
       run_ends (suc n) = rw g
 
 pub good_bounded : (l : List ℕ) (m : Nums) (held counts : List ℕ) → Plannable l m held counts → Bounded l m
-good_bounded l m held counts b = record { held-few = b.held_few; wait-few = b.wait_few; held_in = b.held_in; wait-in = b.wait_in; reach = b.reach }
+good_bounded l m held counts b = record { held_few = b.held_few; wait_few = b.wait_few; held_in = b.held_in; wait_in = b.wait_in; reach = b.reach }
 
 pub goes_some : (l : List ℕ) (kind : ℕ) (m : Nums) (held : List ℕ) → goes_on l kind m held ≡ true → m.held_len ≡ 0 → ⊥
 goes_some l kind m held g e = let h = ltb-true 0 m.held_len (both_inv (ltb 0 m.held_len) _ g).0 in omega arith

@@ -6,7 +6,6 @@ use native.Mathlib.Omega.{arith}
 use lib.Seq.{length-sets, sets}
 use lib.ListN.{get_or, length, set}
 use Rattle.laws.proofs.Sets.{sets_append}
-use Rattle.laws.specs.Bools.{same}
 use Rattle.looks.specs.Front.{wait_words}
 use Rattle.looks.specs.Numbered.{token_at}
 

@@ -9,7 +9,7 @@ use crate::list::{kind_at, list_end, wide, word};
 use crate::state::Nums;
 
 // A token as it stands in a list.
-#[derive(Drop)]
+#[derive(Clone, Copy)]
 pub struct Words {
     pub kind: u32,
     pub start: u32,

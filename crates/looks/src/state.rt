@@ -6,7 +6,7 @@ use crate::list::wide;
 
 // The next token of the list, whether white space is kept (0: dropped), where the held tokens start in their ring and how many there are, and
 // the same of the waiting white space.
-#[derive(Drop)]
+#[derive(Clone, Copy)]
 pub struct Nums {
     pub next: u32,
     pub keep: u32,

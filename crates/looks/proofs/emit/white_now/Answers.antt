@@ -1,0 +1,12 @@
+use lib.ListN.{get_or}
+use borrow.Author.Tests.{eq-eqb, ne_eqb}
+use Rattle.looks.specs.Front.{front_white}
+use Rattle.looks.proofs.emit.white_now.Goals as goal
+
+pub returns-then-nums-eq0 : goal.returns-then-nums-eq0
+unfolding front_white
+returns-then-nums-eq0 c = rw (eq-eqb (get_or c.args.nums.now 3 0) 0 c.if-nums-eq0.true)
+
+pub returns : goal.returns
+unfolding front_white
+returns c = rw (ne_eqb (get_or c.args.nums.now 3 0) 0 c.if-nums-eq0.false) c.count_before.ensures
