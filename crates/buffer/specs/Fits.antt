@@ -6,4 +6,4 @@ use Rattle.buffer.specs.declared.Filled.TheVariants.{Bytes, Failed}
 -- both parts are stated, as in `io`: the proof that Rattle makes of `&buf[..count]` finds them
 abbrev pub Fits : Filled → List ℕ → Type 0
 Fits (Bytes count) bytes = (count ≤ length bytes) × (count ≡ length (take count bytes))
-Fits Failed bytes = Unit {0}
+Fits (Failed f) bytes = Unit {0}

@@ -2,36 +2,48 @@
 // A lent buffer is proved anew at every call that it is lent to; a page costs a caller next to nothing. It is small, since it is copied.
 // Every function here is safe and ends. What reaches standard output no contract can say: runs show it.
 
+use crate::{Output, output_to};
+use std::io::Stdout;
+
 // How many of the bytes wait; crate::LOST after a write that failed.
 #[derive(Drop)]
 pub struct Page {
+    pub to: Output,
     pub bytes: [u8; 512],
     pub waiting: usize,
 }
 
-pub fn blank() -> Page {
+fn blank_on(to: Output) -> Page {
     Page {
+        to,
         bytes: [0; 512],
         waiting: 0,
     }
 }
 
+pub fn blank(to: Stdout) -> Page {
+    blank_on(output_to(to))
+}
+
 pub fn put(page: Page, byte: u8) -> Page {
+    let mut to = page.to;
     let mut bytes = page.bytes;
-    let waiting = crate::put(&mut bytes, page.waiting, byte);
-    Page { bytes, waiting }
+    let waiting = crate::put(&mut to, &mut bytes, page.waiting, byte);
+    Page { to, bytes, waiting }
 }
 
 pub fn put_bytes(page: Page, text: &[u8]) -> Page {
+    let mut to = page.to;
     let mut bytes = page.bytes;
-    let waiting = crate::put_bytes(&mut bytes, page.waiting, text);
-    Page { bytes, waiting }
+    let waiting = crate::put_bytes(&mut to, &mut bytes, page.waiting, text);
+    Page { to, bytes, waiting }
 }
 
 pub fn put_decimal(page: Page, number: u64) -> Page {
+    let mut to = page.to;
     let mut bytes = page.bytes;
-    let waiting = crate::put_decimal(&mut bytes, page.waiting, number);
-    Page { bytes, waiting }
+    let waiting = crate::put_decimal(&mut to, &mut bytes, page.waiting, number);
+    Page { to, bytes, waiting }
 }
 
 // Where the label stands that so many ends come before.
@@ -70,11 +82,13 @@ pub fn put_label(page: Page, labels: &[u8], end: u8, number: usize) -> Page {
 
 // Writes what waits, and turns the page.
 pub fn flushed(page: Page) -> Page {
+    let mut to = page.to;
     let bytes = page.bytes;
-    if crate::flush(&bytes, page.waiting) {
-        return blank();
+    if crate::flush(&mut to, &bytes, page.waiting) {
+        return blank_on(to);
     }
     Page {
+        to,
         bytes,
         waiting: crate::LOST,
     }
@@ -82,6 +96,7 @@ pub fn flushed(page: Page) -> Page {
 
 // Writes what waits. False where that failed, or a write before it did.
 pub fn flush(page: Page) -> bool {
+    let mut to = page.to;
     let bytes = page.bytes;
-    crate::flush(&bytes, page.waiting)
+    crate::flush(&mut to, &bytes, page.waiting)
 }

@@ -4,7 +4,9 @@
 
 ghost use Rattle.std.specs.Prelude.{◌+◌, ◌≤◌};
 
-#[derive(Drop)]
+use std::io::Stdout;
+
+#[derive(Clone, Copy, Drop)]
 enum Class {
     White,
     Control,
@@ -14,15 +16,15 @@ enum Class {
     Continue,
 }
 
-fn print_name(class: Class) {
+fn name_of(class: Class) -> &'static str {
     match class {
-        Class::White => io::write_all(1, b"white "),
-        Class::Control => io::write_all(1, b"control "),
-        Class::Digit => io::write_all(1, b"digit "),
-        Class::Hex => io::write_all(1, b"hex "),
-        Class::Start => io::write_all(1, b"start "),
-        Class::Continue => io::write_all(1, b"continue "),
-    };
+        Class::White => "white",
+        Class::Control => "control",
+        Class::Digit => "digit",
+        Class::Hex => "hex",
+        Class::Start => "start",
+        Class::Continue => "continue",
+    }
 }
 
 fn is_member(class: Class, v: u32) -> bool {
@@ -36,16 +38,13 @@ fn is_member(class: Class, v: u32) -> bool {
     }
 }
 
-fn print_run(class: Class, start: u32, last: u32) {
-    print_name(class);
-    io::print_hex(1, start as u64, 1);
-    io::write_all(1, b" ");
-    io::print_hex(1, last as u64, 1);
-    io::write_all(1, b"\n");
+fn print_run(to: Stdout, class: Class, start: u32, last: u32) {
+    let name = name_of(class);
+    let _ = println!(to; "{name} {start:x} {last:x}");
 }
 
 // Prints the runs among the numbers from `low` to `high`; the answer is how many of them are members.
-fn walk(class: Class, low: u32, high: u32) -> u64
+fn walk(to: Stdout, class: Class, low: u32, high: u32) -> u64
     ensures { result ≤ high + 1 }
 {
     let mut count: u64 = 0;
@@ -62,30 +61,29 @@ fn walk(class: Class, low: u32, high: u32) -> u64
             count += 1;
         } else {
             if inside {
-                print_run(class, start, last);
+                print_run(to, class, start, last);
             }
             inside = false;
         }
     }
     if inside {
-        print_run(class, start, last);
+        print_run(to, class, start, last);
     }
     count
 }
 
-fn list(class: Class) {
-    let count = walk(class, 0, 0x11ffff) + walk(class, 0xffffff00, 0xffffffff);
-    print_name(class);
-    io::write_all(1, b"count ");
-    io::print_decimal(1, count);
-    io::write_all(1, b"\n");
+fn list(to: Stdout, class: Class) {
+    let count = walk(to, class, 0, 0x11ffff) + walk(to, class, 0xffffff00, 0xffffffff);
+    let name = name_of(class);
+    let _ = println!(to; "{name} count {count}");
 }
 
-fn main() {
-    list(Class::White);
-    list(Class::Control);
-    list(Class::Digit);
-    list(Class::Hex);
-    list(Class::Start);
-    list(Class::Continue);
+fn main(rt: HostRuntime) {
+    let to = rt.stdout();
+    list(to, Class::White);
+    list(to, Class::Control);
+    list(to, Class::Digit);
+    list(to, Class::Hex);
+    list(to, Class::Start);
+    list(to, Class::Continue);
 }

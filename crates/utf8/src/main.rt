@@ -3,6 +3,7 @@
 #![tactic(auto)]
 
 use source_test::Tested;
+use std::io::Stdout;
 
 // What the later bytes of a sequence of four run over: the ends of the ranges of RFC 3629, section 4, and their neighbours.
 const SECOND: [u8; 10] = [0x00, 0x7f, 0x80, 0x8f, 0x90, 0x9f, 0xa0, 0xbf, 0xc0, 0xff];
@@ -75,16 +76,14 @@ fn test_four(tally: Tally, lead: u8) -> Tally {
     tally
 }
 
-fn print_line(lead: u8, tally: Tally) {
-    io::print_decimal(1, lead as u64);
-    io::write_all(1, b" ");
-    io::print_decimal(1, tally.good as u64);
-    io::write_all(1, b" ");
-    io::print_decimal(1, tally.sum as u64);
-    io::write_all(1, b"\n");
+fn print_line(to: Stdout, lead: u8, tally: Tally) {
+    let good = tally.good;
+    let sum = tally.sum;
+    let _ = println!(to; "{lead} {good} {sum}");
 }
 
-fn main() {
+fn main(rt: HostRuntime) {
+    let to = rt.stdout();
     for lead in 0..=255 {
         let none = Tally {
             tested: 0,
@@ -94,6 +93,6 @@ fn main() {
         let one = test(none, &[lead]);
         let two = test_two(one, lead);
         let three = test_three(two, lead);
-        print_line(lead, test_four(three, lead));
+        print_line(to, lead, test_four(three, lead));
     }
 }
