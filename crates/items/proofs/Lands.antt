@@ -19,7 +19,6 @@ use Rattle.laws.proofs.Cases.{split}
 use Rattle.laws.specs.Bools.{both, pick}
 use Rattle.text.proofs.Decode.{rest_room, rest_tail}
 use Rattle.text.specs.Utf8.{rest, width}
-use Rattle.token.specs.declared.kind.Kind.TheVariants.{At}
 
 -- r is the place of one of the scalars cs, the first of which stands at p, or of their end
 abbrev pub Lands : List ℕ → ℕ → ℕ → Type 0

@@ -10,7 +10,7 @@ use text::character::BACKSLASH;
 use token::refusal::NOT_ASCII;
 
 // How a body is read. A char or a byte is one item.
-#[derive(Drop)]
+#[derive(Clone, Copy)]
 pub enum Form {
     Text,
     Template,

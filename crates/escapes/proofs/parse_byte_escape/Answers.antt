@@ -1,13 +1,10 @@
 use borrow.Author.Rules.{rules}
-use mathlib.Core.Path.{◌≡◌}
+use mathlib.Core.Path.{◌≡◌, sym, ap, ◌∙◌}
 use Rattle.escapes.specs.Escapes.{byte_turn, shared_of}
 use Rattle.text.specs.Utf8.{rest}
 use Prim.Native.Nat.{ℕ}
-use mathlib.Core.Path.{sym, ap, ◌∙◌}
 use Rattle.escapes.proofs.Escapes.{byte_end, byte_shared, byte_turn_law}
-use Rattle.escapes.specs.Escapes.{byte_turn}
 use Rattle.text.proofs.Decode.{step_none, step_one}
-use Rattle.text.specs.Utf8.{rest}
 use Rattle.escapes.proofs.parse_byte_escape.Goals as goal
 
 pub returns-in_default : goal.returns-in_default

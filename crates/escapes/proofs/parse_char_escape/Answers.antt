@@ -1,13 +1,10 @@
 use borrow.Author.Rules.{rules}
-use mathlib.Core.Path.{◌≡◌}
-use Rattle.escapes.specs.Escapes.{char_turn, shared_of}
+use mathlib.Core.Path.{◌≡◌, sym, ap, ◌∙◌}
+use Rattle.escapes.specs.Escapes.{char_turn, shared_of, low_only}
 use Rattle.text.specs.Utf8.{rest}
 use Prim.Native.Nat.{ℕ}
-use mathlib.Core.Path.{sym, ap, ◌∙◌}
 use Rattle.escapes.proofs.Escapes.{char_backtick, char_dollar, char_end, char_shared, char_turn_law}
-use Rattle.escapes.specs.Escapes.{char_turn, low_only}
 use Rattle.text.proofs.Decode.{step_none, step_one}
-use Rattle.text.specs.Utf8.{rest}
 use Rattle.escapes.proofs.parse_char_escape.Goals as goal
 
 pub returns-in_default : goal.returns-in_default
