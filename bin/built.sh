@@ -8,7 +8,7 @@ sources() {
         cd "$root" || exit
         rt version
         uname -m
-        find crates.txt crates -type f -print0 | LC_ALL=C sort -z | xargs -0 sha256sum
+        find crates.txt crates -name out -prune -o -type f -print0 | LC_ALL=C sort -z | xargs -0 sha256sum
     ) | sha256sum
 }
 
@@ -21,31 +21,26 @@ prove() {
     took=$(cat "$kept/$1.took" 2>/dev/null) && took="last time that took $took s" || took="that takes some minutes"
     echo "$tool: the program $1 is proved and built now; $took. This happens once, and again after a change" >&2
     before=$(sources)
-    # rt looks at the sources alone: it would not miss a program that is gone, nor see another one in its place.
-    if [ ! -x "$program" ] || [ "$before" = "$(head -n 1 "$kept/$1.state" 2>/dev/null)" ]; then
-        rm -f "$root/target/stamp/$1"
-    fi
+    # Whatever stands there may be another program.
+    rm -f "$program" "$program.stamp"
     began=$(date +%s)
-    (cd "$root" && rt check "$1") >"$kept/$1.log" 2>&1 || {
-        grep -v "proved (unchanged" "$kept/$1.log" | tail -n 20 >&2
+    # `rt run` ends with the program's own status, and runs it on nothing: so what was built is looked for.
+    (cd "$root/crates/$1" && rt run </dev/null 3>/dev/null) >"$kept/$1.log" 2>&1 || :
+    took=$(($(date +%s) - began))
+    [ -x "$program" ] || {
+        tail -n 20 "$kept/$1.log" >&2
         fail "the program $1 is not built: the last lines of $kept/$1.log are above"
     }
-    took=$(($(date +%s) - began))
-    [ -x "$program" ] || fail "rt check $1 made no $program: remove $root/target and try again"
-    if grep -q "^rt: $1 proved (unchanged" "$kept/$1.log"; then
-        echo "$tool: $1 was up to date" >&2
-    else
-        echo "$tool: proved and built in $took s" >&2
-        echo $took >"$kept/$1.took"
-    fi
+    echo "$tool: proved and built in $took s" >&2
+    echo $took >"$kept/$1.took"
     # What was changed meanwhile may be in the program or not.
     [ "$(sources)" != "$before" ] || { echo "$before" && sha256sum <"$program"; } >"$kept/$1.state"
 }
 
-# Sets `program`. `rt check` alone would do: it proves only what has changed. But to find that nothing has takes it longer than a listing.
+# Sets `program`. `rt run` alone would do: it proves only what has changed. But to find that nothing has takes it longer than a listing.
 built() {
     command -v rt >/dev/null || fail "no rt on the path: unpack the Rattle kit and put the folder of its rt on the path"
-    program=$root/target/bin/$1
+    program=$root/crates/$1/out/$1
     up_to_date "$1" && return
     if ! mkdir -p "$kept" || [ ! -w "$kept" ]; then
         fail "cannot write to $kept, where the program $1 is to be built"

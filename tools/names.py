@@ -22,12 +22,12 @@ def defined():
     names = set()
     for path in glob.glob(os.path.join(ROOT, 'crates/*/specs/*.antt')):
         module = os.path.basename(path)[:-len('.antt')]
-        names |= {f'{module}.{name}' for name in re.findall(r'^\s*(?:abbrev |unfoldable )?pub (?:record |data )?([A-Za-z0-9]+)', read(path), re.M)}
+        names |= {f'{module}.{name}' for name in re.findall(r'^\s*(?:abbrev |unfoldable )?pub (?:record |data )?([A-Za-z0-9_]+)', read(path), re.M)}
     return names
 
 
 def missing(page):
-    names = set(re.findall(r'`([A-Z][A-Za-z0-9]*\.[A-Za-z0-9]+)`', page)) - {os.path.basename(p) for p in glob.glob(os.path.join(ROOT, 'crates/*/specs/*.antt'))}
+    names = set(re.findall(r'`([A-Z][A-Za-z0-9]*\.[A-Za-z0-9_]+)`', page)) - {os.path.basename(p) for p in glob.glob(os.path.join(ROOT, 'crates/*/specs/*.antt'))}
     paths = {path for path in re.findall(r'`(crates/[^`\s]*)`', page) if not glob.glob(os.path.join(ROOT, path))}
     return sorted(names - defined()) + sorted(paths)
 

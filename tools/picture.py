@@ -31,8 +31,9 @@ def read(path):
 def crates():
     """Each crate with those of ours that it stands on; the kit's own are left out."""
     lines = [l.split('#')[0].split(':') for l in read('crates.txt').splitlines() if l.split('#')[0].strip()]
-    names = {name.strip() for name, below in lines}
-    return {name.strip(): [b for b in below.split() if b in names] for name, below in lines}
+    lines = [(name.split()[0], below) for name, below in lines]
+    names = {name for name, below in lines}
+    return {name: [b for b in below.split() if b in names] for name, below in lines}
 
 
 def reached(stands_on):
