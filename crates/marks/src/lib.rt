@@ -19,6 +19,7 @@ pub fn has_inside(kind: Kind) -> bool
 }
 
 // How many bytes of a token stay before its inside.
+#[tactic(auto, unfolding(crate::specs::Marks::open_mark))]
 pub fn opens(kind: Kind) -> usize
     ensures { result ≡ length (open_mark kind) }
 {
@@ -29,6 +30,7 @@ pub fn opens(kind: Kind) -> usize
     }
 }
 
+#[tactic(auto, unfolding(crate::specs::Shut::is_shut))]
 fn is_shut(kind: Kind) -> bool
     ensures { result ≡ is_shut kind }
 {
@@ -39,6 +41,7 @@ fn is_shut(kind: Kind) -> bool
 }
 
 // How many stay after it.
+#[tactic(auto, unfolding(crate::specs::Marks::close_mark))]
 pub fn closes(kind: Kind) -> usize
     ensures { result ≡ length (close_mark kind) }
 {
