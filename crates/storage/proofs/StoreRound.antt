@@ -9,7 +9,7 @@ use lib.Seq.{drop-cons, get_or-drop}
 use lib.ListN.{drop, get_or, length, length-drop}
 use borrow.Author.Tests.{eqb-true}
 use Rattle.laws.proofs.Cases.{both_inv, never, within_inv}
-use Rattle.laws.specs.Bools.{both, pick, same, within}
+use Rattle.laws.specs.Bools.{both, pick, within}
 use Rattle.rows.proofs.Puts.{stored_done}
 use Rattle.rows.proofs.Rows.{list_checked, list_sound}
 use Rattle.rows.specs.Rows.{Row, and_then, list_check, list_rows, record_check, row_check, rows_check, rows_of, stored_in, unless_refused, word_row}
