@@ -62,6 +62,7 @@ pub fn is_whitespace(v: u32) -> bool
     in_ranges(&WHITE_SPACE, v)
 }
 
+#[tactic(auto, using(std::proofs::lemmas::Bool::Decides::nat_tests))]
 pub fn is_control(v: u32) -> bool
     ensures { result ≡ is_control v }
 {
