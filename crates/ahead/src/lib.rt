@@ -1,4 +1,4 @@
-// The state of the parser's lookahead buffer, and a fresh one. In proofs/spread: how a call lends the state's arrays where they lie.
+// The state of the parser's lookahead buffer, and a fresh one.
 #![tactic(auto)]
 
 ghost use Rattle.std.specs.Prelude.{◌≡◌};

@@ -1,1 +1,0 @@
-fill('Ahead/new', {'returns': 'rw (@flag .ensures)'})
