@@ -65,6 +65,9 @@ module _ (s : List ℕ) (p : ℕ) (h : 0 < length (bare_of (drop p s))) where
   pub high_here : 0x7f < get_or s p 0 → ascii_of (bare_of (drop p s)) ≡ []
   high_here l = ap ascii_of bare_cons ∙ low_stop (get_or s p 0) (bare_of (drop (p + 1) s)) l
 
+  pub high_none : 0x7f < get_or s p 0 → length (ascii_of (bare_of (drop p s))) ≡ 0
+  high_none l = ap length (high_here l)
+
 -- the bytes of a scalar that is no backslash belong to a run, and no others do before what follows
 bare_bytes : (v : ℕ) (t : List ℕ) → is_scalar v ≡ true → (v ≡ 0x5c → ⊥) → bare_of (encode_of v ++ t) ≡ encode_of v ++ bare_of t
 unfolding bare_of

@@ -24,6 +24,7 @@ fn bare_end(s: &[u8], at: usize) -> usize
 }
 
 // The place of the first byte above 0x7f before a backslash or the end, which is at `end`.
+#[tactic(auto, using(crate::proofs::Runs::high_none))]
 fn low_end(s: &[u8], at: usize, end: usize) -> usize
     requires { end ≡ at + length (bare_of (drop at s.now)) }
     ensures { result ≡ at + length (ascii_of (bare_of (drop at s.now))) }
@@ -50,6 +51,7 @@ pub fn run_end(s: &[u8], at: usize, bytes: bool) -> usize
 }
 
 // The byte after the backslash at a place; 0: there is no backslash, or nothing after it.
+#[tactic(auto, using(crate::proofs::Shorts::escaped_end, crate::proofs::Shorts::escaped_here, crate::proofs::Shorts::escaped_other))]
 pub fn escaped_at(s: &[u8], at: usize) -> u8
     ensures { result ≡ escaped_at s.now at }
 {
