@@ -1,5 +1,3 @@
 pub mod Steps
 pub mod Chars
 pub mod Calls
-pub mod Peek
-pub mod Next

@@ -6,7 +6,7 @@ ghost use Rattle.source.specs.Reader.{moved_of, new_of, next_scalar_of, peek2_of
 
 use text::Scalar;
 
-#[derive(Drop)]
+#[derive(Clone, Copy)]
 pub struct Source<'a> {
     src: &'a [u8],
     at: usize,
