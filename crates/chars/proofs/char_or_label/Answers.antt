@@ -1,6 +1,5 @@
 use mathlib.Core.Path.{sym, ap₂, ◌∙◌}
 use mathlib.Core.Bool.{Bool}
-use borrow.Author.Tests.{not-false, not-true}
 use Rattle.readers.specs.Readers.{char_answer, letters}
 use Rattle.chars.proofs.char_or_label.Goals as goal
 

@@ -1,4 +1,3 @@
-use Prim.Native.Nat.{◌-◌}
 use mathlib.Core.Path.{refl, sym, ap, ◌∙◌}
 use native.Mathlib.Omega.{arith}
 use Rattle.readers.proofs.Scans.{goes_behind, goes_cut, goes_end, goes_on, scan_end}
@@ -6,7 +5,7 @@ use Rattle.readers.proofs.Steps.{byte_close, byte_control, byte_more, byte_slash
 use Rattle.readers.specs.Readers.{Bytes, backslashed, body, byte_answer, byte_of, byte_step, control, fresh}
 use Rattle.readers.specs.Scan.{Stop, scan}
 use Rattle.text.proofs.Decode.{step_none, step_one}
-use Rattle.text.specs.Utf8.{first, rest, width}
+use Rattle.text.specs.Utf8.{rest, width}
 use Rattle.strings.proofs.next_lit_byte.Goals as goal
 
 pub returns-in_default : goal.returns-in_default

@@ -1,7 +1,5 @@
-use Prim.Native.Nat.{◌-◌}
 use mathlib.Core.Path.{refl, sym, ap, ◌∙◌}
 use native.Mathlib.Omega.{arith}
-use borrow.Author.Tests.{not-false, not-true}
 use Rattle.classes.specs.Classes.{is_xid_continue}
 use Rattle.readers.proofs.Scans.{goes_before, goes_end, goes_on}
 use Rattle.readers.proofs.Steps.{run_no, run_yes}

@@ -1,15 +1,13 @@
-use Prim.Native.Nat.{◌-◌}
 use mathlib.Core.Path.{sym, ap, ◌∙◌}
 use mathlib.Core.Bool.{true, false}
 use native.Mathlib.Omega.{arith}
-use borrow.Author.Tests.{not-false, not-true}
 use Rattle.readers.proofs.Scans.{goes_before, goes_end, goes_on, goes_place}
 use Rattle.readers.proofs.Steps.{number_bare, number_dot, number_more, number_other, number_sign}
 use Rattle.readers.specs.Numbers.{Numeral, first_part, number_end, number_lit_of, number_step, signed, unsigned}
 use Rattle.readers.specs.Scan.{Stop, on, scan}
 use Rattle.readers.specs.declared.number.Part.{Part}
 use Rattle.text.proofs.Decode.{step_none, step_one}
-use Rattle.text.specs.Utf8.{first, rest, width}
+use Rattle.text.specs.Utf8.{rest, width}
 use Rattle.token.specs.Reads.{got_of}
 use Rattle.token.specs.declared.kind.Kind.TheVariants.{Number}
 use Rattle.words.proofs.number.next_number_literal.Goals as goal

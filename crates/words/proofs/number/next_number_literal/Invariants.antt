@@ -4,7 +4,7 @@ use lib.ListN.{length}
 use Rattle.readers.proofs.Scans.{Goes}
 use Rattle.readers.specs.Numbers.{first_part, number_step, unsigned}
 use Rattle.readers.specs.Scan.{scan}
-use Rattle.text.specs.Utf8.{first, rest, width}
+use Rattle.text.specs.Utf8.{rest, width}
 use Rattle.words.proofs.number.next_number_literal.Given as goal
 
 abbrev pub invariant-loop-value : goal.invariant-loop-value
