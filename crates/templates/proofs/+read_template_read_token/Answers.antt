@@ -1,5 +1,5 @@
 -- Every answer cites a turn law. Assumes nothing.
-use Rattle.std.proofs.Common.{◌≡◌, ℕ, ◌+◌, ◌-◌, ◌*◌, ◌<◌, length, sym, refl, ap, ◌∙◌, arith, rules}
+use Rattle.std.proofs.Common.{sym, refl, ap, ◌∙◌, arith}
 use Rattle.readers.specs.Rules.{rules_of}
 use Rattle.templates.proofs.Turns.{after_deep, after_got, after_refused, body_close, body_down, body_end, body_other, body_up, body_within, deep_none, deep_some, down_is, reached_past, reached_room, token_deep, token_end, token_plain}
 use Rattle.templates.specs.Body.{template_body, template_of, token_of}

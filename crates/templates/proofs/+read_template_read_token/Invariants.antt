@@ -1,5 +1,5 @@
 -- The remaining depth falls: twice it, and one more for a template.
-use Rattle.std.proofs.Common.{◌≡◌, ℕ, ◌+◌, ◌-◌, ◌*◌, ◌<◌, length}
+use Rattle.std.proofs.Common.{◌≡◌, ◌+◌, ◌-◌, ◌*◌, ◌<◌, length}
 use Rattle.readers.specs.Rules.{rules_of}
 use Rattle.templates.specs.Body.{template_body, template_of, token_of}
 use Rattle.text.specs.Utf8.{rest}
