@@ -1,10 +1,13 @@
 // The reading that the arguments of a program name. What two words name equals its definition in specs/; no contract says what the program was started with.
 #![tactic(auto)]
 
-ghost use Rattle.std.specs.Prelude.{◌≡◌};
+ghost use Rattle.std.specs.Prelude.{◌≡◌, ◌≤◌, length};
 ghost use Rattle.arguments.specs.Words.{chosen_of, reading_named};
 
 use readers::{Chosen, Comments, Reading};
+use std::env::FillError;
+use std::io::Stderr;
+use std::rt::Env;
 
 fn chosen(comments: Comments) -> Chosen
     ensures { result ≡ chosen_of comments }
@@ -30,9 +33,26 @@ pub fn reading_named(option: &[u8], value: &[u8]) -> Chosen
     Chosen::NoReading
 }
 
+// How many words the program was started with, its name among them.
+pub fn count(rt: &impl Env) -> usize {
+    for i in 0..usize::MAX {
+        if let Err(FillError::NotPresent) = rt.arg(i, &mut []) {
+            return i;
+        }
+    }
+    usize::MAX
+}
+
+// Puts one of them at the front of the lent bytes; its length, or 0 where there is none or it does not fit.
+pub fn word(rt: &impl Env, i: usize, into: &mut [u8]) -> usize
+    ensures { result ≤ length into.new }
+{
+    rt.arg(i, into).unwrap_or(0)
+}
+
 // rune's reading unless one is named. An argument that does not fit is as good as an empty one: it names nothing.
-pub fn asked() -> Chosen {
-    let count = os::arg_count();
+pub fn asked(rt: &impl Env) -> Chosen {
+    let count = count(rt);
     if count < 2 {
         return chosen(Comments::Crate);
     }
@@ -40,15 +60,13 @@ pub fn asked() -> Chosen {
         return Chosen::NoReading;
     }
     let mut option = [0u8; 16];
-    let n = os::arg(1, &mut option);
+    let n = word(rt, 1, &mut option);
     let mut value = [0u8; 16];
-    let m = os::arg(2, &mut value);
+    let m = word(rt, 2, &mut value);
     reading_named(&option[..n], &value[..m])
 }
 
 // What to write instead, on standard error.
-pub fn say_usage(program: &[u8]) {
-    io::write_all(2, b"usage: ");
-    io::write_all(2, program);
-    io::write_all(2, b" [--comments crate|first]\n");
+pub fn say_usage(err: Stderr, program: &str) {
+    let _ = println!(err; "usage: {program} [--comments crate|first]");
 }

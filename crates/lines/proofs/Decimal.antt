@@ -1,38 +1,35 @@
--- The digits that `io` makes are those of the definition, and how many there are. Assumes nothing.
-use Prim.Native.Nat.{ℕ, zero, suc, ◌+◌, ◌-◌, ◌/◌, ◌%◌, ◌^◌, ◌≤◌, ◌<◌}
-use mathlib.Core.Path.{◌≡◌, ◌∙◌, subst}
-use mathlib.Core.List.{List, [], ◌∷◌}
+-- How many digits a number has, and which are the last. Assumes nothing.
+use Prim.Native.Nat.{ℕ, zero, suc, ◌+◌, ◌/◌, ◌%◌, ◌^◌, ◌≤◌, ◌<◌}
+use mathlib.Core.Path.{◌≡◌, ◌∙◌, ap, subst, sym}
+use mathlib.Core.List.{[], ◌∷◌, ◌++◌}
 use native.Mathlib.Omega.{arith}
-use lib.ListN.{length, length-append, take}
+use lib.ListN.{length, length-append}
 use borrow.Author.Tests.{le-ltb, lt-ltb}
 use Rattle.laws.proofs.Cases.{split_le}
 use Rattle.lines.specs.Lines.{decimal_in, decimal_of, token_line}
 use native.Mathlib.Nat as nat
-use Rattle.io.specs.Digits as io
 
-digit : (d : ℕ) → d < 10 → io.hex_digit_ascii d ≡ 48 + d
-digit d h = rw (lt-ltb d 10 h)
-
-digits_from : (most k n : ℕ) → k < most → n < 10 ^ suc k → (0 < k → 10 ^ k ≤ n) → io.last_digits 10 (suc k) n ≡ decimal_in most n
+-- a number below ten is its digit
+pub decimal_small : (most n : ℕ) → 0 < most → n < 10 → decimal_in most n ≡ (48 + n) ∷ []
 unfolding decimal_in
-digits_from (suc most) zero n m h l =
-    let e : n % 10 ≡ n = omega arith in
-    rw (lt-ltb n 10 h, e, lt-ltb n 10 h)
-digits_from (suc most) (suc k) n m h l =
-    let big = l (omega arith) in
-    rw (
-      le-ltb n 10 (omega (arith, nat.pow-suc 10 k, nat.one-le-pow k 10 (omega arith))),
-      digits_from most k (n / 10) (omega arith) (omega (arith, nat.pow-suc 10 (suc k))) (λ z. omega (arith, nat.pow-suc 10 k)),
-      digit (n % 10) (omega arith),
-    )
+decimal_small zero n z h = absurd (omega arith)
+decimal_small (suc most) n z h = rw (lt-ltb n 10 h)
 
-pub decimal_text : (n k : ℕ) (text : List ℕ) → n < 2 ^ 64 → io.IsDigitCount 10 1 n k → take k text ≡ io.last_digits 10 k n → take k text ≡ decimal_of n
-decimal_text n zero text m f e = absurd (omega (arith, f.0))
-decimal_text n (suc k) text m f e =
-    let z : suc k - 1 ≡ k = omega arith in
-    let big : 0 < k → 10 ^ k ≤ n = λ h. subst (λ (j : ℕ). 10 ^ j ≤ n) z (f.2 (omega arith)) in
-    let few : k < 20 = split_le 20 k (λ l. absurd (omega (arith, big (omega arith), nat.pow-le-pow_right {n = 10} (omega arith) l))) (λ l. l) in
-    e ∙ digits_from 20 k n few f.1 big
+-- another has the digits of its tenth and then its last
+pub decimal_large : (most less n : ℕ) → suc less ≡ most → 10 ≤ n → decimal_in most n ≡ decimal_in less (n / 10) ++ ((48 + n % 10) ∷ [])
+unfolding decimal_in
+decimal_large zero less n e h = absurd (omega arith)
+decimal_large (suc most) less n e h = let z : most ≡ less = omega arith in rw (← z, le-ltb n 10 h)
+
+pub decimal_longer : (most less n : ℕ) → suc less ≡ most → 10 ≤ n → length (decimal_in most n) ≡ length (decimal_in less (n / 10)) + 1
+decimal_longer most less n e h = ap length (decimal_large most less n e h) ∙ length-append (decimal_in less (n / 10)) ((48 + n % 10) ∷ [])
+
+pub tenth : (most less n : ℕ) → suc less ≡ most → n < 10 ^ most → n / 10 < 10 ^ less
+tenth most less n e h = let p : n < 10 ^ suc less = subst (λ (k : ℕ). n < 10 ^ k) (sym e) h in omega (arith, nat.pow-suc 10 less, p)
+
+pub more_left : (most less n : ℕ) → suc less ≡ most → 10 ≤ n → n < 10 ^ most → 0 < less
+more_left most zero n e g h = let p : n < 10 ^ 1 = subst (λ (k : ℕ). n < 10 ^ k) (sym e) h in absurd (omega arith)
+more_left most (suc less) n e g h = omega arith
 
 pub decimal_room : (most k n : ℕ) → n < 10 ^ suc k → length (decimal_in most n) ≤ suc k
 unfolding decimal_in

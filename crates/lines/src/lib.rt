@@ -2,9 +2,9 @@
 // What a call leaves there, and its answer, the line's length, are proved equal to the definitions in specs/.
 #![tactic(auto)]
 
-ghost use Rattle.std.specs.Prelude.{◌+◌, ◌≤◌, ◌≡◌, length};
+ghost use Rattle.std.specs.Prelude.{◌+◌, ◌^◌, ◌<◌, ◌≤◌, ◌≡◌, length};
 ghost use Rattle.std.proofs.lemmas.List.Edits.{sets};
-ghost use Rattle.lines.specs.Lines.{Counted, Puts, decimal_of, end_line, refused_line, token_line};
+ghost use Rattle.lines.specs.Lines.{Counted, Puts, decimal_in, decimal_of, end_line, refused_line, token_line};
 
 fn put_bytes(out: &mut [u8], at: usize, bytes: &[u8]) -> usize
     requires { at + length bytes.now ≤ length out.old }
@@ -18,13 +18,27 @@ fn put_bytes(out: &mut [u8], at: usize, bytes: &[u8]) -> usize
     at + i
 }
 
+// A number in at most so many digits.
+fn put_digits(out: &mut [u8], at: usize, number: u64, most: u8) -> usize
+    requires room { at + length (decimal_in most number) ≤ length out.old }
+    requires some { 0 < most }
+    requires few { number < 10 ^ most }
+    ensures { Puts out.old at (decimal_in most number) out.new result }
+{
+    if number < 10 {
+        out[at] = b'0' + number as u8;
+        return at + 1;
+    }
+    let next = put_digits(out, at, number / 10, most - 1);
+    out[next] = b'0' + (number % 10) as u8;
+    next + 1
+}
+
 fn put_decimal(out: &mut [u8], at: usize, number: u64) -> usize
     requires { at + length (decimal_of number) ≤ length out.old }
     ensures { Puts out.old at (decimal_of number) out.new result }
 {
-    let mut digits = [0u8; 20];
-    let count = io::decimal(number, &mut digits);
-    put_bytes(out, at, &digits[..count])
+    put_digits(out, at, number, 20)
 }
 
 fn put_three(out: &mut [u8], at: usize, number: u32, start: usize, end: usize) -> usize

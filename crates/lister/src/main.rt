@@ -1,35 +1,60 @@
 // Document 01's lister: the tokens of standard input, a line each, then what ended them. Comments end as in rune unless `--comments first` is asked.
 #![tactic(auto)]
 
-use buffer::Filled;
+use buffer::fault::{Fault, has_no_reader, tell};
+use buffer::{Filled, output_to};
 use readers::{Chosen, Reading};
+use std::io::{Stderr, Stdin, Stdout};
+
+// The streams that are written.
+#[derive(Clone, Copy, Drop)]
+struct Streams {
+    to: Stdout,
+    err: Stderr,
+}
+
+fn tell_unwritten(err: Stderr, fault: Fault) {
+    if !has_no_reader(fault) {
+        tell(err, b"lister: cannot write to standard output", fault);
+    }
+}
 
 // How the program ends, in the words of buffer::leave.
-fn list(s: &[u8], reading: Reading) -> u8 {
-    let mut out = io::large_buffer();
-    let printed = printing::list(s, reading, &mut out, 0);
-    if !buffer::flush(&out, printed.waiting) {
-        os::fail(b"lister: cannot write to standard output");
+fn list(streams: Streams, s: &[u8], reading: Reading) -> u8 {
+    let mut to = output_to(streams.to);
+    let mut out = [0u8; 65536];
+    let printed = printing::list(&mut to, s, reading, &mut out, 0);
+    if !buffer::flush(&mut to, &out, printed.waiting) {
+        tell_unwritten(streams.err, to.fault);
         return 2;
     }
     if printed.refused { 1 } else { 0 }
 }
 
-fn read_and_list(reading: Reading) -> u8 {
+fn read_and_list(from: Stdin, streams: Streams, reading: Reading) -> u8 {
     // One byte more than a source may have tells an over-long input.
     let mut source = [0u8; 65537];
-    let Filled::Bytes { count } = buffer::fill(0, &mut source) else {
-        os::fail(b"lister: cannot read standard input");
-        return 2;
+    let mut from = from;
+    let count = match buffer::fill(&mut from, &mut source) {
+        Filled::Bytes { count } => count,
+        Filled::Failed { fault } => {
+            tell(streams.err, b"lister: cannot read standard input", fault);
+            return 2;
+        }
     };
-    list(&source[..count], reading)
+    list(streams, &source[..count], reading)
 }
 
-fn main() {
-    let Chosen::OneReading { reading } = arguments::asked() else {
-        arguments::say_usage(b"lister");
-        buffer::leave(2);
+fn main(rt: HostRuntime) {
+    let streams = Streams {
+        to: rt.stdout(),
+        err: rt.stderr(),
+    };
+    let Chosen::OneReading { reading } = arguments::asked(&rt) else {
+        arguments::say_usage(streams.err, "lister");
+        buffer::leave(&rt, 2);
         return;
     };
-    buffer::leave(read_and_list(reading));
+    let status = read_and_list(rt.stdin(), streams, reading);
+    buffer::leave(&rt, status);
 }

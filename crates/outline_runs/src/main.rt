@@ -6,11 +6,13 @@ mod sources;
 
 ghost use Rattle.std.specs.Prelude.{◌+◌, ◌≤◌, ◌<◌};
 
+use buffer::read_full;
 use listing::Listed;
 use outline::Outlined;
 use places::part;
 use readers::{Comments, Reading};
 use source_test::Tested;
+use std::io::Stdout;
 use token::{Refusal, Span};
 
 // The kind up to the escape mark.
@@ -278,41 +280,40 @@ fn try_all(file: &[u8], turns: u64, rooms: Rooms) -> Counts
     counts
 }
 
-fn print_line(text: &[u8], number: u64) {
-    io::write_all(1, text);
-    io::print_decimal(1, number);
-    io::write_all(1, b"\n");
+fn print_line(to: Stdout, text: &str, number: u64) {
+    let _ = println!(to; "{text} {number}");
 }
 
-fn print(counts: Counts) {
-    print_line(b"well-formed ", counts.well_formed);
-    print_line(b"different ", counts.different);
+fn print(to: Stdout, counts: Counts) {
+    print_line(to, "well-formed", counts.well_formed);
+    print_line(to, "different", counts.different);
 }
 
-fn try_random() {
-    print_line(b"sources ", 300000);
+fn try_random(to: Stdout) {
+    print_line(to, "sources", 300000);
     let rooms = Rooms {
         bytes: 64,
         words: 192,
     };
-    print(try_all(b"", 300000, rooms));
+    print(to, try_all(b"", 300000, rooms));
 }
 
-fn try_damaged(file: &[u8]) {
+fn try_damaged(to: Stdout, file: &[u8]) {
     if file.len() == 0 {
         return;
     }
-    print_line(b"damaged ", 40000);
+    print_line(to, "damaged", 40000);
     let rooms = Rooms {
         bytes: 4096,
         words: 6144,
     };
-    print(try_all(file, 40000, rooms));
+    print(to, try_all(file, 40000, rooms));
 }
 
-fn main() {
-    try_random();
-    let mut file = io::buffer();
-    let got = io::read_full(0, &mut file);
-    try_damaged(part(&file, 0, got));
+fn main(rt: HostRuntime) {
+    let to = rt.stdout();
+    try_random(to);
+    let mut file = [0u8; 4096];
+    let got = read_full(&mut rt.stdin(), &mut file);
+    try_damaged(to, part(&file, 0, got));
 }

@@ -2,66 +2,89 @@
 // `--comments first` is asked.
 #![tactic(auto)]
 
+use buffer::fault::{Fault, fault_of, has_no_reader, tell};
 use buffer::Filled;
 use outline::Outlined;
 use readers::{Chosen, Reading};
+use std::io::{Stderr, Stdin, Stdout};
 use token::Refusal;
 
-fn say(refusal: Refusal) {
-    io::write_all(2, b"refused ");
-    io::print_decimal(2, refusal.number as u64);
-    io::write_all(2, b" ");
-    io::print_decimal(2, refusal.span.start as u64);
-    io::write_all(2, b" ");
-    io::print_decimal(2, refusal.span.end as u64);
-    io::write_all(2, b"\n");
+fn say(err: Stderr, refusal: Refusal) {
+    let number = refusal.number;
+    let start = refusal.span.start;
+    let end = refusal.span.end;
+    let _ = println!(err; "refused {number} {start} {end}");
 }
 
-fn write(outlined: &[u8]) -> bool {
-    let written = io::write_all(1, outlined);
-    if !written {
-        os::fail(b"outliner: cannot write to standard output");
+// The streams that are written.
+#[derive(Clone, Copy, Drop)]
+struct Streams {
+    to: Stdout,
+    err: Stderr,
+}
+
+fn tell_unwritten(err: Stderr, fault: Fault) {
+    if !has_no_reader(fault) {
+        tell(err, b"outliner: cannot write to standard output", fault);
     }
-    written
+}
+
+fn write(streams: Streams, outlined: &[u8]) -> bool {
+    match Print::write_all(&streams.to, outlined) {
+        Ok(()) => true,
+        Err(error) => {
+            tell_unwritten(streams.err, fault_of(error));
+            false
+        }
+    }
 }
 
 // How the program ends, in the words of buffer::leave. The refusals 1, 2 and 3 write no outline.
-fn print(s: &[u8], reading: Reading, out: &mut [u8]) -> u8 {
+fn print(streams: Streams, s: &[u8], reading: Reading, out: &mut [u8]) -> u8 {
     if out.len() < s.len() {
-        io::write_all(2, b"refused 1 0 0\n");
+        let _ = println!(streams.err; "refused 1 0 0");
         return 1;
     }
     let n = s.len();
     match outline::outline(s, reading, out) {
-        Outlined::Whole => { if write(&out[..n]) { 0 } else { 2 } }
+        Outlined::Whole => { if write(streams, &out[..n]) { 0 } else { 2 } }
         Outlined::Stopped { refusal } => {
             if 3 < refusal.number {
-                if !write(&out[..n]) {
+                if !write(streams, &out[..n]) {
                     return 2;
                 }
             }
-            say(refusal);
+            say(streams.err, refusal);
             1
         }
     }
 }
 
-fn read_and_print(reading: Reading) -> u8 {
+fn read_and_print(from: Stdin, streams: Streams, reading: Reading) -> u8 {
     // One byte more than a source may have tells an over-long input.
     let mut source = [0u8; 65537];
-    let Filled::Bytes { count } = buffer::fill(0, &mut source) else {
-        os::fail(b"outliner: cannot read standard input");
-        return 2;
+    let mut from = from;
+    let count = match buffer::fill(&mut from, &mut source) {
+        Filled::Bytes { count } => count,
+        Filled::Failed { fault } => {
+            tell(streams.err, b"outliner: cannot read standard input", fault);
+            return 2;
+        }
     };
-    let mut out = io::large_buffer();
-    print(&source[..count], reading, &mut out)
+    let mut out = [0u8; 65536];
+    print(streams, &source[..count], reading, &mut out)
 }
 
-fn main() {
-    let Chosen::OneReading { reading } = arguments::asked() else {
-        arguments::say_usage(b"outliner");
-        buffer::leave(2);
+fn main(rt: HostRuntime) {
+    let streams = Streams {
+        to: rt.stdout(),
+        err: rt.stderr(),
+    };
+    let Chosen::OneReading { reading } = arguments::asked(&rt) else {
+        arguments::say_usage(streams.err, "outliner");
+        buffer::leave(&rt, 2);
         return;
     };
-    buffer::leave(read_and_print(reading));
+    let status = read_and_print(rt.stdin(), streams, reading);
+    buffer::leave(&rt, status);
 }

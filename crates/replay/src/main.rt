@@ -5,7 +5,10 @@
 
 ghost use Rattle.std.specs.Prelude.{◌≤◌, ◌<◌};
 
+use buffer::fault::has_no_reader;
+use buffer::{Output, output_to, read_full};
 use readers::{Comments, Reading};
+use std::io::Stdin;
 
 #[derive(Drop)]
 enum Frame {
@@ -20,9 +23,9 @@ fn wide(byte: u8) -> usize
 }
 
 // A mode byte and a length, low byte first. Any other mode ends the replay.
-fn read_head() -> Frame {
+fn read_head(from: &mut Stdin) -> Frame {
     let mut head = [0u8; 5];
-    let got = io::read_full(0, &mut head);
+    let got = read_full(from, &mut head);
     if got < 5 {
         return Frame::End;
     }
@@ -37,23 +40,23 @@ fn read_head() -> Frame {
 }
 
 // Reads past what an over-long payload has beyond the lent bytes, by way of them.
-fn skip(source: &mut [u8], count: usize) {
+fn skip(from: &mut Stdin, source: &mut [u8], count: usize) {
     let mut left = count;
     while source.len() < left {
-        if io::read_full(0, source) == 0 {
+        if read_full(from, source) == 0 {
             return;
         }
         left = left - source.len();
     }
-    io::read_full(0, &mut source[..left]);
+    read_full(from, &mut source[..left]);
 }
 
-fn list_payload(source: &mut [u8], out: &mut [u8], waiting: usize) -> usize {
-    let got = io::read_full(0, source);
+fn list_payload(from: &mut Stdin, source: &mut [u8], to: &mut Output, out: &mut [u8], waiting: usize) -> usize {
+    let got = read_full(from, source);
     let reading = Reading {
         comments: Comments::Crate,
     };
-    let printed = printing::list(&source[..got], reading, out, waiting);
+    let printed = printing::list(to, &source[..got], reading, out, waiting);
     printed.waiting
 }
 
@@ -64,30 +67,34 @@ fn least(a: usize, b: usize) -> usize
 }
 
 // The frame's answer and a line `.`. A payload that does not fit is over-long in any case: its front is listed.
-fn answer(length: usize, source: &mut [u8], out: &mut [u8], waiting: usize) -> usize {
+fn answer(from: &mut Stdin, length: usize, source: &mut [u8], to: &mut Output, out: &mut [u8], waiting: usize) -> usize {
     let held = least(length, source.len());
-    let listed = list_payload(&mut source[..held], out, waiting);
-    skip(source, length - held);
-    buffer::put_bytes(out, listed, b".\n")
+    let listed = list_payload(from, &mut source[..held], to, out, waiting);
+    skip(from, source, length - held);
+    buffer::put_bytes(to, out, listed, b".\n")
 }
 
-// Nothing says that the input ends: the number of turns falls.
-fn answer_all(source: &mut [u8], out: &mut [u8]) -> usize {
+// Nothing says that the input ends: the number of turns falls. Where nobody reads the answers there are no more.
+fn answer_all(from: &mut Stdin, source: &mut [u8], to: &mut Output, out: &mut [u8]) -> usize {
     let mut waiting: usize = 0;
     let mut turns = u64::MAX;
     while turns > 0 {
-        let Frame::List { length } = read_head() else {
+        let Frame::List { length } = read_head(from) else {
             return waiting;
         };
-        waiting = answer(length, source, out, waiting);
+        waiting = answer(from, length, source, to, out, waiting);
+        if has_no_reader(to.fault) {
+            return waiting;
+        }
         turns = turns - 1;
     }
     waiting
 }
 
-fn main() {
+fn main(rt: HostRuntime) {
     let mut source = [0u8; 65537];
-    let mut out = io::large_buffer();
-    let waiting = answer_all(&mut source, &mut out);
-    buffer::flush(&out, waiting);
+    let mut to = output_to(rt.stdout());
+    let mut out = [0u8; 65536];
+    let waiting = answer_all(&mut rt.stdin(), &mut source, &mut to, &mut out);
+    buffer::flush(&mut to, &out, waiting);
 }

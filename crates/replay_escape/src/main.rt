@@ -4,9 +4,10 @@
 
 ghost use Rattle.std.specs.Prelude.{◌<◌};
 
-use buffer::page;
 use buffer::page::{Page, put, put_bytes, put_decimal};
+use buffer::{page, read_full};
 use places::part;
+use std::io::{Stdin, Stdout};
 use unescape::{Form, Unescaped};
 
 // A body's form and length; or there is no frame.
@@ -41,9 +42,9 @@ fn length_of(a: u8, b: u8, c: u8, d: u8) -> usize {
     wide(a) + wide(b) * 256 + wide(c) * 65536 + wide(d) * 16777216
 }
 
-fn read_head() -> Frame {
+fn read_head(from: &mut Stdin) -> Frame {
     let mut head = [0u8; 5];
-    if io::read_full(0, &mut head) < 5 {
+    if read_full(from, &mut head) < 5 {
         return Frame::End;
     }
     frame_of(head[0], length_of(head[1], head[2], head[3], head[4]))
@@ -97,30 +98,30 @@ fn put_answer(out: Page, body: &[u8], form: Form, written: &mut [u8]) -> Page {
     }
 }
 
-fn read_body(body: &mut [u8], size: usize) -> bool {
+fn read_body(from: &mut Stdin, body: &mut [u8], size: usize) -> bool {
     if body.len() < size {
         return false;
     }
-    io::read_full(0, &mut body[..size]) == size
+    read_full(from, &mut body[..size]) == size
 }
 
 // A frame's answer and a line `.`; false where there was none, or nobody reads.
-fn turn(body: &mut [u8; 66000], written: &mut [u8; 65536]) -> bool {
-    let Frame::Body { form, size } = read_head() else {
+fn turn(from: &mut Stdin, to: Stdout, body: &mut [u8; 66000], written: &mut [u8; 65536]) -> bool {
+    let Frame::Body { form, size } = read_head(from) else {
         return false;
     };
-    if !read_body(body, size) {
+    if !read_body(from, body, size) {
         return false;
     }
-    let out = put_answer(page::blank(), part(body, 0, size), form, written);
+    let out = put_answer(page::blank(to), part(body, 0, size), form, written);
     page::flush(put_bytes(out, b"\n.\n"))
 }
 
 // Nothing says that the input ends: the number of turns falls.
-fn answer_all(body: &mut [u8; 66000], written: &mut [u8; 65536]) {
+fn answer_all(from: &mut Stdin, to: Stdout, body: &mut [u8; 66000], written: &mut [u8; 65536]) {
     let mut turns = u64::MAX;
     while turns > 0 {
-        if !turn(body, written) {
+        if !turn(from, to, body, written) {
             return;
         }
         turns = turns - 1;
@@ -132,8 +133,8 @@ fn room() -> [u8; 66000] {
     [0; 66000]
 }
 
-fn main() {
+fn main(rt: HostRuntime) {
     let mut body = room();
-    let mut written = io::large_buffer();
-    answer_all(&mut body, &mut written);
+    let mut written = [0u8; 65536];
+    answer_all(&mut rt.stdin(), rt.stdout(), &mut body, &mut written);
 }

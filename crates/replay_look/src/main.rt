@@ -7,11 +7,12 @@ mod lines;
 
 ghost use Rattle.std.specs.Prelude.{◌<◌};
 
-use buffer::page;
 use buffer::page::{Page, put_bytes};
+use buffer::{page, read_full};
 use listing::Listed;
 use places::part;
 use readers::{Comments, Reading};
+use std::io::{Stdin, Stdout};
 
 // Where the source ends in a frame's payload, and where the calls after it do; and whether white space is kept.
 #[derive(Drop)]
@@ -53,9 +54,9 @@ fn frame_of(mode: u8, keep: u8, payload: usize, source: usize) -> Frame {
 }
 
 // A mode byte, the payload's length, the byte for white space and the source's length, lengths low byte first.
-fn read_head() -> Frame {
+fn read_head(from: &mut Stdin) -> Frame {
     let mut head = [0u8; 10];
-    if io::read_full(0, &mut head) < 10 {
+    if read_full(from, &mut head) < 10 {
         return Frame::End;
     }
     frame_of(
@@ -66,11 +67,11 @@ fn read_head() -> Frame {
     )
 }
 
-fn read_payload(payload: &mut [u8], size: usize) -> bool {
+fn read_payload(from: &mut Stdin, payload: &mut [u8], size: usize) -> bool {
     if payload.len() < size {
         return false;
     }
-    io::read_full(0, &mut payload[..size]) == size
+    read_full(from, &mut payload[..size]) == size
 }
 
 // The words of so many tokens.
@@ -84,6 +85,7 @@ fn front(list: &[u32], count: usize) -> &[u32] {
 
 // The source is the payload's first bytes, and the calls are the others.
 fn answer(
+    to: Stdout,
     payload: &[u8],
     keep: bool,
     source: usize,
@@ -97,10 +99,10 @@ fn answer(
     match listing::list(part(payload, 0, source), reading, list) {
         Listed::Stopped { count: _, refusal } => {
             let span = refusal.span;
-            lines::put_refused(page::blank(), refusal.number, span.start, span.end)
+            lines::put_refused(page::blank(to), refusal.number, span.start, span.end)
         }
         Listed::Whole { count } => calls::put_calls(
-            page::blank(),
+            page::blank(to),
             keep,
             front(list, count),
             part(payload, source, end),
@@ -109,30 +111,30 @@ fn answer(
     }
 }
 
-fn read_frame(payload: &mut [u8]) -> Frame {
-    let Frame::Script { keep, source, end } = read_head() else {
+fn read_frame(from: &mut Stdin, payload: &mut [u8]) -> Frame {
+    let Frame::Script { keep, source, end } = read_head(from) else {
         return Frame::End;
     };
-    if !read_payload(payload, end) {
+    if !read_payload(from, payload, end) {
         return Frame::End;
     }
     Frame::Script { keep, source, end }
 }
 
 // A frame's answer and a line `.`; false where there was none, or nobody reads.
-fn turn(payload: &mut [u8; 65536], list: &mut [u32; 12288], written: &mut [u32; 12288]) -> bool {
-    let Frame::Script { keep, source, end } = read_frame(payload) else {
+fn turn(from: &mut Stdin, to: Stdout, payload: &mut [u8; 65536], list: &mut [u32; 12288], written: &mut [u32; 12288]) -> bool {
+    let Frame::Script { keep, source, end } = read_frame(from, payload) else {
         return false;
     };
-    let answered = answer(payload, keep, source, end, list, written);
+    let answered = answer(to, payload, keep, source, end, list, written);
     page::flush(put_bytes(answered, b".\n"))
 }
 
 // Nothing says that the input ends: the number of turns falls.
-fn answer_all(payload: &mut [u8; 65536], list: &mut [u32; 12288], written: &mut [u32; 12288]) {
+fn answer_all(from: &mut Stdin, to: Stdout, payload: &mut [u8; 65536], list: &mut [u32; 12288], written: &mut [u32; 12288]) {
     let mut turns = u64::MAX;
     while turns > 0 {
-        if !turn(payload, list, written) {
+        if !turn(from, to, payload, list, written) {
             return;
         }
         turns = turns - 1;
@@ -144,9 +146,9 @@ fn words() -> [u32; 12288] {
     [0; 12288]
 }
 
-fn main() {
-    let mut payload = io::large_buffer();
+fn main(rt: HostRuntime) {
+    let mut payload = [0u8; 65536];
     let mut list = words();
     let mut written = words();
-    answer_all(&mut payload, &mut list, &mut written);
+    answer_all(&mut rt.stdin(), rt.stdout(), &mut payload, &mut list, &mut written);
 }

@@ -12,8 +12,13 @@ pub(crate) struct Sheet {
 }
 
 pub(crate) fn digits_of(line: usize) -> usize {
-    let mut digits = [0u8; 20];
-    io::decimal(line as u64, &mut digits)
+    let mut count: usize = 1;
+    let mut left = line / 10;
+    while 0 < left {
+        count = count + 1;
+        left = left / 10;
+    }
+    count
 }
 
 fn put_blanks(out: Page, count: usize) -> Page {

@@ -5,15 +5,15 @@ use buffer::page::{Page, put, put_bytes, put_decimal};
 use places::{Place, moved};
 use token::refusal::NO_ROOM;
 
-fn put_control(out: Page, byte: u8) -> Page {
-    let mut digits = [0u8; 16];
-    let count = io::hex(u64_of(byte), 4, &mut digits);
-    let out = put_bytes(out, b"\\u");
-    put_bytes(out, &digits[..count])
-}
+const HEX: [u8; 16] = [
+    b'0', b'1', b'2', b'3', b'4', b'5', b'6', b'7', b'8', b'9', b'a', b'b', b'c', b'd', b'e', b'f',
+];
 
-fn u64_of(byte: u8) -> u64 {
-    byte as u64
+fn put_control(out: Page, byte: u8) -> Page {
+    let high = (byte / 16) as usize;
+    let low = (byte % 16) as usize;
+    let out = put_bytes(out, b"\\u00");
+    put(put(out, HEX[high]), HEX[low])
 }
 
 fn put_escaped(out: Page, byte: u8) -> Page {
