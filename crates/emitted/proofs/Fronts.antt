@@ -20,7 +20,6 @@ use Rattle.emitted.specs.Sequence.{Call, IsFront, accepted, advances, arrays, bu
 use Rattle.laws.proofs.Cases.{both_false, never, split}
 use Rattle.laws.specs.Bools.{both}
 use Rattle.looks.proofs.Numbers.{count_bound}
-use Rattle.looks.proofs.Planning.{after}
 use Rattle.looks.specs.Buffer.{State}
 use Rattle.looks.specs.Calls.{Turn, advance_by, advance_refusal, array_by, array_refusal, bump_by, bump_if_by, fill_by, fill_refusal, flush_by, glued_by, is_eof_by, nth_by, nth_token_by, refuses}
 use Rattle.looks.specs.Front.{yes}
@@ -37,7 +36,7 @@ module _ (l : List ℕ) where
   fresh_facts keep =
       record {
         sized = fresh_sized keep;
-        bounded = record { held-few = omega arith; wait-few = omega arith; held_in = omega arith; wait-in = omega arith; reach = omega arith };
+        bounded = record { held_few = omega arith; wait_few = omega arith; held_in = omega arith; wait_in = omega arith; reach = omega arith };
         held = refl;
         waits = refl;
         sum = omega arith;

@@ -13,7 +13,6 @@ use Rattle.laws.proofs.Cases.{both_inv, split, split_eq}
 use Rattle.laws.specs.Bools.{pick}
 use Rattle.looks.proofs.Answers.{refusal_none}
 use Rattle.looks.proofs.Gathers.{gather_held}
-use Rattle.looks.proofs.Planning.{after}
 use Rattle.looks.proofs.Running.{plan_inv, while_planned, while_sound}
 use Rattle.looks.specs.Buffer.{State, fill, fits, fits_for, gather, gather_at, gather_nums, gathers}
 use Rattle.looks.specs.Calls.{Turn, advance_by, advance_refusal, advance_turn, advance_words, advanced, array_by, array_refusal, array_turn, bump_answer, bump_by, bump_if_by, bumped, fill_by, fill_refusal, flush_by, flush_turn, flushed, front_turn, glued_by, glued_kind, is_eof_by, nth_by, nth_token_by, refuses, shows, stored_by, unless}

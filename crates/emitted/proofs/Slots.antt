@@ -5,7 +5,6 @@ use mathlib.Core.List.{List, [], ◌∷◌, ◌++◌, append_assoc, append-nil}
 use native.Mathlib.Omega.{arith}
 use lib.Seq.{get_or-set_other, get_or-set_same}
 use lib.ListN.{get_or, length, length-set, set}
-use Rattle.ahead.proofs.spread.Parts.{apart}
 use Rattle.looks.specs.Buffer.{queued}
 
 -- n numbers from the slot `at` on

@@ -121,10 +121,10 @@ module _ (l : List ℕ) (st : State) (s : Sound l st) where
       let b = s.bounded in
       let old = b.held_few in
       record {
-        held-few = split_le (token_count l) p₁ (λ h. rw (le-ltb p₁ (token_count l) h) (omega arith)) (λ h. rw (lt-ltb p₁ (token_count l) h) (omega arith));
-        wait-few = room;
+        held_few = split_le (token_count l) p₁ (λ h. rw (le-ltb p₁ (token_count l) h) (omega arith)) (λ h. rw (lt-ltb p₁ (token_count l) h) (omega arith));
+        wait_few = room;
         held_in = b.held_in;
-        wait-in = b.wait_in;
+        wait_in = b.wait_in;
         reach = split_le (token_count l) p₁ (λ h. rw (le-ltb p₁ (token_count l) h) (omega arith)) (λ h. rw (lt-ltb p₁ (token_count l) h) (omega arith));
       }
 
@@ -179,7 +179,7 @@ module _ (l : List ℕ) (st : State) (s : Sound l st) where
   less_bounds w =
       let b = s.bounded in
       let few = b.wait_few in
-      record { held-few = b.held_few; wait-few = omega arith; held_in = b.held_in; wait-in = omega arith; reach = b.reach }
+      record { held_few = b.held_few; wait_few = omega arith; held_in = b.held_in; wait_in = omega arith; reach = b.reach }
 
   held_bounds : (n : Nums) → Bounded l n → Bounded l (less_held n)
   unfolding less_held
@@ -187,7 +187,7 @@ module _ (l : List ℕ) (st : State) (s : Sound l st) where
       let few = b.held_few in
       split (eqb n.held_len 0)
       (λ z. rw z b)
-      (λ z. rw z (record { held-few = omega arith; wait-few = b.wait_few; held_in = omega arith; wait-in = b.wait_in; reach = b.reach }))
+      (λ z. rw z (record { held_few = omega arith; wait_few = b.wait_few; held_in = omega arith; wait_in = b.wait_in; reach = b.reach }))
 
   bump_held : rises false l (held_of (bumped st)) 0 (bumped st).nums.next ≡ true
   bump_held =

@@ -18,7 +18,6 @@ use Rattle.laws.proofs.Cases.{split_eq, split_le, within_inv}
 use Rattle.laws.specs.Bools.{pick}
 use Rattle.looks.proofs.Gathers.{gather_waits}
 use Rattle.looks.proofs.Numbers.{dark_bound}
-use Rattle.looks.proofs.Planning.{after}
 use Rattle.looks.specs.Buffer.{State, gather, gather_at, gather_nums, gather_to, keeps, white_to}
 use Rattle.looks.specs.Calls.{bumped, flushed}
 use Rattle.looks.specs.Front.{front_words, less_waiting, nth_of, nth_words, white_of, white_words}
