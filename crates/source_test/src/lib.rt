@@ -119,6 +119,7 @@ fn walk_end(s: &[u8], at: usize) -> usize
 }
 
 // Over the next block.
+#[tactic(auto, using(crate::proofs::Blocks::passed_run))]
 fn pass(s: &[u8], at: usize) -> usize
     requires { at < length s.now }
     ensures { Passed s.now at result }
@@ -147,6 +148,7 @@ fn sound_to(s: &[u8]) -> usize
     at
 }
 
+#[tactic(auto, unfolding(crate::specs::Source::source_test))]
 pub fn test_source(s: &[u8]) -> Tested
     ensures { result ≡ source_test s.now }
 {
@@ -161,6 +163,7 @@ pub fn test_source(s: &[u8]) -> Tested
 }
 
 // Whether a position lies at a scalar or at the end, in a source that is well-formed.
+#[tactic(auto, unfolding(crate::specs::Source::boundary))]
 pub fn is_boundary(s: &[u8], at: usize) -> bool
     ensures { result ≡ boundary s.now at }
 {
