@@ -24,7 +24,7 @@ use Rattle.source_test.specs.declared.Tested.TheVariants.{Sound, Unsound}
 use Rattle.text.specs.Utf8.{rest, width}
 use Rattle.token.specs.declared.read.Refusal.{Refusal}
 use Rattle.unescape.proofs.Bodies.{body_at, by_ending, read_fault, read_whole, source_refused, source_sound}
-use Rattle.unescape.proofs.Unescaped.{count_right}
+use Rattle.unescape.proofs.Holds.{count_right}
 use Rattle.unescape.specs.Bodies.{Body, Ending, Result, body_of, fault, item_turn, items_bytes, refuse, unescape_of, whole, wrong_count, wrote}
 use Rattle.unescape.specs.declared.body.Unescaped.{Unescaped}
 use Rattle.unescape.specs.declared.body.Unescaped.TheVariants.{Refused, Wrote}

@@ -3,6 +3,6 @@ pub mod Stores
 pub mod Bodies
 pub mod Stretches
 pub mod Passes
-pub mod Unescaped
+pub mod Holds
 pub mod Faults
 pub mod Examples

@@ -16,7 +16,6 @@ use Rattle.items.proofs.Begins.{item_byte, item_char}
 use Rattle.items.specs.Items.{is_bytes, is_single, is_template, item_of}
 use Rattle.items.specs.declared.Form.{Form}
 use Rattle.laws.proofs.Cases.{both_false, never, split_le}
-use Rattle.laws.specs.Bools.{same}
 use Rattle.runs.proofs.Shorts.{escaped_inv}
 use Rattle.runs.specs.Runs.{begins_of, escaped_at}
 use Rattle.text.proofs.Decode.{Step, step_ascii}

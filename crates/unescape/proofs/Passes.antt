@@ -14,7 +14,6 @@ use Rattle.items.specs.Items.{is_bytes, item_of}
 use Rattle.items.specs.declared.Form.{Form}
 use Rattle.laws.proofs.Cases.{never}
 use Rattle.laws.proofs.Sets.{sets_append}
-use Rattle.laws.specs.Bools.{same}
 use Rattle.runs.proofs.Runs.{bare_next}
 use Rattle.runs.specs.Runs.{bare_of, plain_end}
 use Rattle.source_test.specs.Source.{sound_to}

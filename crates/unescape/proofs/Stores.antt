@@ -8,7 +8,6 @@ use lib.Seq.{drop-cons, get_or-take, length-take-le, sets, take-append_seam, tak
 use lib.ListN.{drop, drop_of_length-le, get_or, length, length-append, length-set, replicate, set, take}
 use Rattle.encoding.specs.Encode.{padded}
 use Rattle.encoding.specs.declared.Encoded.{Encoded}
-use Rattle.laws.specs.Bools.{same}
 
 -- four bytes, of which the first are those of a list, and 0 after
 module _ (l : List ℕ) (h : length l ≤ 4) (r : Encoded) (e : r ≡ padded l) where

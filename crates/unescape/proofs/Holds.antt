@@ -1,4 +1,4 @@
--- What holds of every body: its bytes are well_formed text, one item for a char or a byte, no more bytes than the body has,
+-- What holds of every body: its bytes are well-formed text, one item for a char or a byte, no more bytes than the body has,
 -- and a body without escapes as it stands. Assumes nothing.
 use Prim.Native.Nat.{ℕ, ◌+◌, ◌≤◌, ◌<◌}
 use mathlib.Core.Path.{◌≡◌, refl, sym, ap, ap₂, ◌∙◌, subst}
@@ -22,7 +22,6 @@ use Rattle.items.specs.Items.{is_bytes, is_single, item_bytes, item_of}
 use Rattle.items.specs.declared.Form.{Form}
 use Rattle.laws.proofs.Cases.{never, split, split_eq, split_le}
 use Rattle.laws.proofs.Determined.{determined}
-use Rattle.laws.specs.Bools.{same}
 use Rattle.source_test.proofs.Places.{by_tested, sound_inv}
 use Rattle.source_test.specs.Source.{sound_to, source_test}
 use Rattle.source_test.specs.declared.Tested.TheVariants.{Sound}
@@ -165,7 +164,7 @@ module _ (form : Form) (s : List ℕ) (room n : ℕ) (e : (unescape_of form s ro
   pub no_longer : n ≤ length s
   no_longer = omega (arith, sizes.room, count_is_length, ap length bytes_are, ap (λ (l : List ℕ). length (items_bytes form l)) items_are)
 
-  -- the output of an accepted text, template or char body is a source: well_formed, and not over-long
+  -- the output of an accepted text, template or char body is a source: well-formed, and not over-long
   pub well_formed : is_bytes form ≡ false → source_test (unescape_of form s room).bytes ≡ Sound
   well_formed h =
       let all : AllScalar accepted.items = subst AllScalar items_are (sizes.scalars h) in
