@@ -118,7 +118,7 @@ def wordings(table):
     arms = ''.join(f'        {row.number} => {i},\n' for i, row in enumerate(rows))
     out = ['// What the refusals of a source and the findings are called, mean and ask for; 160 and 161 are the findings 60 and 61 of a template.\n'
            '// Written by tools/texts.py from texts.txt: change that table. Every function is safe and ends; what it puts no contract says.\n'
-           'use buffer::page::Page;\nuse buffer::page::put_label;\n',
+           '#![tactic(auto)]\n\nuse buffer::page::{Page, put_label};\n',
            '// The row of a number in the texts below.\n'
            f'fn row_of(number: u32) -> usize {{\n    match number {{\n{arms}        _ => {len(rows)},\n    }}\n}}\n']
     return '\n'.join(out + [wording_function(rows, field) for field in ('name', 'what', 'cure')])
