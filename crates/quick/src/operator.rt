@@ -22,6 +22,7 @@ fn two_or(s: &[u8], i: usize, b: u8, two: u32, c: u8, other: u32, one: u32) -> u
 }
 
 // The first byte is a, and the next ones stand at i and j.
+#[tactic(auto, unfolding(crate::specs::Operators::quick_of, crate::specs::Operators::operator_by, operators::specs::Operators::look_one, operators::specs::Operators::look_two, operators::specs::Operators::look_three, operators::specs::Operators::ones, operators::specs::Operators::twos, operators::specs::Operators::threes, numbers::specs::Kinds::number_of))]
 fn quick_of(s: &[u8], a: u8, i: usize, j: usize) -> u32
     ensures { result ≡ quick_of a (get_or s.now i 0) (get_or s.now j 0) }
 {
@@ -73,6 +74,7 @@ fn quick_of(s: &[u8], a: u8, i: usize, j: usize) -> u32
     }
 }
 
+#[tactic(auto, unfolding(crate::specs::Operators::quick_at))]
 pub fn quick_operator(s: &[u8], at: usize) -> u32
     ensures { result ≡ quick_at s.now at }
 {

@@ -7,7 +7,7 @@ use crate::operator::quick_operator;
 use text::byte_at;
 
 // Its kind's number, and where it ends. Number 0: the reader has to be asked.
-#[derive(Drop)]
+#[derive(Clone, Copy)]
 pub struct Quick {
     pub number: u32,
     pub end: usize,
@@ -46,6 +46,7 @@ fn is_word(b: u8) -> bool
     }
 }
 
+#[tactic(auto, using(crate::proofs::Passes::pass_stop, crate::proofs::Passes::pass_next, crate::proofs::Passes::pass_end))]
 fn blank_end(s: &[u8], at: usize) -> usize
     ensures { result ≡ at + length (passing is_blank (drop at s.now)) }
 {
@@ -59,6 +60,7 @@ fn blank_end(s: &[u8], at: usize) -> usize
     p
 }
 
+#[tactic(auto, using(crate::proofs::Passes::pass_stop, crate::proofs::Passes::pass_next, crate::proofs::Passes::pass_end))]
 fn word_end(s: &[u8], at: usize) -> usize
     ensures { result ≡ at + length (passing in_number (drop at s.now)) }
 {
@@ -73,6 +75,7 @@ fn word_end(s: &[u8], at: usize) -> usize
 }
 
 // From after the first byte of blanks on.
+#[tactic(auto, unfolding(crate::specs::Tokens::blank_at))]
 fn blank(s: &[u8], at: usize) -> Quick
     ensures { result ≡ blank_at s.now at }
 {
@@ -91,6 +94,7 @@ fn blank(s: &[u8], at: usize) -> Quick
 }
 
 // From after the first byte of a word, which is a, on.
+#[tactic(auto, unfolding(crate::specs::Tokens::word_at))]
 fn word(s: &[u8], a: u8, at: usize) -> Quick
     ensures { result ≡ word_at a s.now at }
 {
@@ -115,6 +119,7 @@ fn word(s: &[u8], a: u8, at: usize) -> Quick
     Quick { number: 6, end }
 }
 
+#[tactic(auto, unfolding(crate::specs::Tokens::other_at))]
 fn other(s: &[u8], at: usize) -> Quick
     ensures { result ≡ other_at s.now at }
 {
@@ -131,6 +136,7 @@ fn other(s: &[u8], at: usize) -> Quick
     unsure()
 }
 
+#[tactic(auto, unfolding(crate::specs::Tokens::quick_token_at))]
 pub fn quick_token(s: &[u8], at: usize) -> Quick
     ensures { result ≡ quick_token_at s.now at }
 {
