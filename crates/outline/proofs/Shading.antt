@@ -13,7 +13,7 @@ use Rattle.families.proofs.Steps.{tokens_fin, tokens_halt, tokens_more, tokens_p
 use Rattle.families.specs.Tokens.{tokens_at}
 use Rattle.laws.proofs.Cases.{split}
 use Rattle.laws.proofs.Sets.{sets_append}
-use Rattle.laws.specs.Bools.{both, pick, same}
+use Rattle.laws.specs.Bools.{both, pick}
 use Rattle.lexer.specs.Next.{next_at}
 use Rattle.marks.specs.Marks.{close_mark, open_mark}
 use Rattle.numbers.specs.Kinds.{has_inside}
