@@ -71,8 +71,11 @@ pub later_token : (g : Reading) (s : List ℕ) (at : ℕ) → both (eqb at 0) (i
 unfolding past_start_at next_at next_of
 later_token g s at h = rw h
 
+pub later_none : (s : List ℕ) (at : ℕ) → (at ≡ 0 → ⊥) → both (eqb at 0) (is_shebang (rest s at)) ≡ false
+later_none s at h = ap (λ (b : Bool). both b (is_shebang (rest s at))) (ne_eqb at 0 h)
+
 pub later_next : (g : Reading) (s : List ℕ) (at : ℕ) → (at ≡ 0 → ⊥) → past_start_at g s at ≡ next_at g s at
-later_next g s at h = later_token g s at (ap (λ (b : Bool). both b (is_shebang (rest s at))) (ne_eqb at 0 h))
+later_next g s at h = later_token g s at (later_none s at h)
 
 pub no_shebang : (s : List ℕ) (at : ℕ) → at ≡ 0 → is_shebang (rest s 0) ≡ false → both (eqb at 0) (is_shebang (rest s at)) ≡ false
 no_shebang s at z h = subst (λ (x : ℕ). both (eqb x 0) (is_shebang (rest s x)) ≡ false) (sym z) h
