@@ -9,7 +9,6 @@ use borrow.Author.Tests.{eqb-true}
 use Rattle.families.proofs.Pairs.{turn-both}
 use Rattle.families.specs.Places.{place_after}
 use Rattle.families.specs.Shape.{Framed, Shape, ShapeFits, comment_shape, line_shape, mark_after, mark_before, shape_kind, string_shape, template_shape}
-use Rattle.families.specs.Tokens.{more}
 use Rattle.laws.proofs.Cases.{never, split}
 use Rattle.readers.proofs.Scans.{by_act}
 use Rattle.readers.specs.Readers.{Closing, Quoted, after_star, closed_by, comment_step, in_line, run_step, skips, slashed, str_step, text}

@@ -12,7 +12,7 @@ use Rattle.families.specs.Places.{place_after}
 use Rattle.families.specs.Sane.{Sane}
 use Rattle.families.specs.Shape.{Framed, Shape, comment_shape, line_shape, mark_after, mark_before, painted, plain_shape, shape_kind, string_shape, template_shape, xs}
 use Rattle.numbers.proofs.Inverse.{plain_byte_str, plain_str}
-use Rattle.numbers.specs.Kinds.{kinds, number_of, plain_kind}
+use Rattle.numbers.specs.Kinds.{number_of, plain_kind}
 use Rattle.readers.specs.Rules.{Rules}
 use Rattle.readers.specs.Scan.{Stride}
 use Rattle.templates.specs.Body.{token_of}
