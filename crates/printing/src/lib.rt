@@ -14,7 +14,14 @@ pub struct Printed {
     pub refused: bool,
 }
 
-fn put_three(to: &mut Output, out: &mut [u8], waiting: usize, number: u32, start: usize, end: usize) -> usize {
+fn put_three(
+    to: &mut Output,
+    out: &mut [u8],
+    waiting: usize,
+    number: u32,
+    start: usize,
+    end: usize,
+) -> usize {
     let mut line = [0u8; 64];
     let n = lines::three(&mut line, number, start, end);
     put_bytes(to, out, waiting, &line[..n])
@@ -40,7 +47,13 @@ fn put_end(to: &mut Output, out: &mut [u8], waiting: usize, count: usize) -> Pri
 }
 
 // Each token goes past its start, so the bytes left fall.
-fn list_tokens(to: &mut Output, s: &[u8], reading: Reading, out: &mut [u8], waiting: usize) -> Printed {
+fn list_tokens(
+    to: &mut Output,
+    s: &[u8],
+    reading: Reading,
+    out: &mut [u8],
+    waiting: usize,
+) -> Printed {
     let mut waiting = waiting;
     let mut at: usize = 0;
     let mut count: usize = 0;
@@ -61,7 +74,13 @@ fn list_tokens(to: &mut Output, s: &[u8], reading: Reading, out: &mut [u8], wait
     }
 }
 
-pub fn list(to: &mut Output, s: &[u8], reading: Reading, out: &mut [u8], waiting: usize) -> Printed {
+pub fn list(
+    to: &mut Output,
+    s: &[u8],
+    reading: Reading,
+    out: &mut [u8],
+    waiting: usize,
+) -> Printed {
     match source_test::test_source(s) {
         Tested::Sound => list_tokens(to, s, reading, out, waiting),
         Tested::Unsound { refusal } => put_refused(to, out, waiting, refusal),
