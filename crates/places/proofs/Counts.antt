@@ -9,14 +9,19 @@ use lib.ListN.{get_or}
 use borrow.Author.Tests.{eq-eqb, ne_eqb}
 use Rattle.laws.proofs.Cases.{never, split, split_le}
 use Rattle.laws.specs.Bools.{pick}
-use Rattle.laws.specs.Tables.{ordered}
 use Rattle.places.specs.Lines.{Stands, begins, column_of, count_in, count_to, is_feed, line_number, start_of}
 use Rattle.places.specs.declared.line.Place.{Place}
-use Rattle.text.specs.Utf8.{first}
 
 pub count_one : (b : Bool) → pick b 1 0 ≤ 1
 count_one true = omega arith
 count_one false = omega arith
+
+-- at a byte that is LF, and at one that is none
+pub feed_here : (s : List ℕ) (at : ℕ) → get_or s at 0 ≡ 10 → ◌≡◌ {A = ℕ} 1 (pick (is_feed (get_or s at 0)) 1 0)
+feed_here s at h = rw (eq-eqb (get_or s at 0) 10 h)
+
+pub feed_none : (s : List ℕ) (at : ℕ) → (get_or s at 0 ≡ 10 → ⊥) → ◌≡◌ {A = ℕ} 0 (pick (is_feed (get_or s at 0)) 1 0)
+feed_none s at h = rw (ne_eqb (get_or s at 0) 10 h)
 
 pub count_step : (f : ℕ → Bool) (s : List ℕ) (n : ℕ) → count_to f s (n + 1) ≡ pick (f (get_or s n 0)) 1 0 + count_to f s n
 unfolding count_to

@@ -14,7 +14,7 @@ pub struct Place {
     pub column: usize,
 }
 
-// It stands in every source (`origin-stands`).
+// It stands in every source (`origin_stands`).
 pub fn origin() -> Place
     ensures { (result.at ≡ 0) × (result.line ≡ 1) × (result.column ≡ 1) }
 {
@@ -56,6 +56,7 @@ pub fn part(s: &[u8], from: usize, to: usize) -> &[u8]
     &s[from..to]
 }
 
+#[tactic(auto, using(crate::proofs::Counts::feed_here, crate::proofs::Counts::feed_none))]
 fn feed_at(s: &[u8], at: usize) -> usize
     ensures { result ≡ pick (is_feed (get_or s.now at 0)) 1 0 }
 {
