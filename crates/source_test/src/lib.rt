@@ -48,6 +48,7 @@ fn most(s: &[u8], at: usize) -> u8
 }
 
 // How many bytes the sequence at a place has, by its first byte a from 0x80 on, reading no more than it must; 0: ill-formed.
+#[tactic(auto, using(crate::proofs::Blocks::len_first, crate::proofs::Blocks::len_second, crate::proofs::Blocks::len_2, crate::proofs::Blocks::len_third, crate::proofs::Blocks::len_3, crate::proofs::Blocks::len_last, crate::proofs::Blocks::len_fourth, crate::proofs::Blocks::len_4))]
 fn len_at(s: &[u8], at: usize, a: u8) -> usize
     requires { (at < length s.now) × (0x7f < a) }
     ensures { result ≡ len_of (lead_of a (get_or s.now (at + 1) 0) (get_or s.now (at + 2) 0) (get_or s.now (at + 3) 0)) }
