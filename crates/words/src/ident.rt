@@ -24,6 +24,7 @@ fn word_end(s: &[u8], at: usize) -> usize
 }
 
 // A word that begins with the scalar `first`.
+#[tactic(auto, unfolding(readers::specs::Readers::word_of))]
 pub fn next_ident(s: &[u8], first: u32, start: usize, at: usize) -> Read
     ensures { result ≡ word_of width is_xid_continue first start (rest s.now at) at }
 {
