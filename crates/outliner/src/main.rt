@@ -2,8 +2,8 @@
 // `--comments first` is asked.
 #![tactic(auto)]
 
-use buffer::fault::{Fault, fault_of, has_no_reader, tell};
 use buffer::Filled;
+use buffer::fault::{Fault, fault_of, has_no_reader, tell};
 use outline::Outlined;
 use readers::{Chosen, Reading};
 use std::io::{Stderr, Stdin, Stdout};

@@ -51,7 +51,13 @@ fn skip(from: &mut Stdin, source: &mut [u8], count: usize) {
     read_full(from, &mut source[..left]);
 }
 
-fn list_payload(from: &mut Stdin, source: &mut [u8], to: &mut Output, out: &mut [u8], waiting: usize) -> usize {
+fn list_payload(
+    from: &mut Stdin,
+    source: &mut [u8],
+    to: &mut Output,
+    out: &mut [u8],
+    waiting: usize,
+) -> usize {
     let got = read_full(from, source);
     let reading = Reading {
         comments: Comments::Crate,
@@ -67,7 +73,14 @@ fn least(a: usize, b: usize) -> usize
 }
 
 // The frame's answer and a line `.`. A payload that does not fit is over-long in any case: its front is listed.
-fn answer(from: &mut Stdin, length: usize, source: &mut [u8], to: &mut Output, out: &mut [u8], waiting: usize) -> usize {
+fn answer(
+    from: &mut Stdin,
+    length: usize,
+    source: &mut [u8],
+    to: &mut Output,
+    out: &mut [u8],
+    waiting: usize,
+) -> usize {
     let held = least(length, source.len());
     let listed = list_payload(from, &mut source[..held], to, out, waiting);
     skip(from, source, length - held);
