@@ -8,16 +8,24 @@ pub measure-requires : goal.measure-requires
 measure-requires c = c.requires
 
 pub returns-then-wrong_count : goal.returns-then-wrong_count
-returns-then-wrong_count c = record { answer = c.refuse-then-wrong_count.ensures ∙ refused_answer _ _ _ _ (read_wrong c.args.form c.args.body.now (length c.args.out.now) _ c.measure.ensures _ c.in-Whole.is (sym c.wrong_count.ensures ∙ c.if-wrong_count.true)); bytes = refused_store _ _ _ _ _ (read_wrong c.args.form c.args.body.now (length c.args.out.now) _ c.measure.ensures _ c.in-Whole.is (sym c.wrong_count.ensures ∙ c.if-wrong_count.true)) }
+returns-then-wrong_count c =
+    let r = read_wrong c.args.form c.args.body.now (length c.args.out.now) _ c.measure.ensures _ c.in-Whole.is (sym c.wrong_count.ensures ∙ c.if-wrong_count.true) in
+    record { answer = c.refuse-then-wrong_count.ensures ∙ refused_answer _ _ _ _ r; bytes = refused_store _ _ _ _ _ r }
 
 pub returns-then-out-count : goal.returns-then-out-count
-returns-then-out-count c = record { answer = c.refuse-then-out-count.ensures ∙ refused_answer _ _ _ _ (read_short c.args.form c.args.body.now (length c.args.out.now) _ c.measure.ensures _ c.in-Whole.is (sym c.wrong_count.ensures ∙ c.if-wrong_count.false) c.if-out-count.true); bytes = refused_store _ _ _ _ _ (read_short c.args.form c.args.body.now (length c.args.out.now) _ c.measure.ensures _ c.in-Whole.is (sym c.wrong_count.ensures ∙ c.if-wrong_count.false) c.if-out-count.true) }
+returns-then-out-count c =
+    let r = read_short c.args.form c.args.body.now (length c.args.out.now) _ c.measure.ensures _ c.in-Whole.is (sym c.wrong_count.ensures ∙ c.if-wrong_count.false) c.if-out-count.true in
+    record { answer = c.refuse-then-out-count.ensures ∙ refused_answer _ _ _ _ r; bytes = refused_store _ _ _ _ _ r }
 
 pub write_items-requires : goal.write_items-requires
 write_items-requires c = record { sound = c.requires; faultless = (whole_is c.args.form c.args.body.now (length c.args.out.now) _ c.measure.ensures _ c.in-Whole.is).0; enough = omega (arith, (whole_is c.args.form c.args.body.now (length c.args.out.now) _ c.measure.ensures _ c.in-Whole.is).1, c.if-out-count.false) }
 
 pub returns-in-Stopped : goal.returns-in-Stopped
-returns-in-Stopped c = record { answer = c.refuse.ensures ∙ refused_answer _ _ _ _ (read_stopped c.args.form c.args.body.now (length c.args.out.now) _ c.measure.ensures _ _ _ c.in-Stopped.is); bytes = refused_store _ _ _ _ _ (read_stopped c.args.form c.args.body.now (length c.args.out.now) _ c.measure.ensures _ _ _ c.in-Stopped.is) }
+returns-in-Stopped c =
+    let r = read_stopped c.args.form c.args.body.now (length c.args.out.now) _ c.measure.ensures _ _ _ c.in-Stopped.is in
+    record { answer = c.refuse.ensures ∙ refused_answer _ _ _ _ r; bytes = refused_store _ _ _ _ _ r }
 
 pub returns-else-out-count : goal.returns-else-out-count
-returns-else-out-count c = record { answer = wrote_answer _ _ _ (read_wrote c.args.form c.args.body.now (length c.args.out.now) _ c.measure.ensures _ c.in-Whole.is (sym c.wrong_count.ensures ∙ c.if-wrong_count.false) c.if-out-count.false) (whole_is c.args.form c.args.body.now (length c.args.out.now) _ c.measure.ensures _ c.in-Whole.is).1; bytes = wrote_store _ _ _ _ (read_wrote c.args.form c.args.body.now (length c.args.out.now) _ c.measure.ensures _ c.in-Whole.is (sym c.wrong_count.ensures ∙ c.if-wrong_count.false) c.if-out-count.false) c.write_items.ensures }
+returns-else-out-count c =
+    let r = read_wrote c.args.form c.args.body.now (length c.args.out.now) _ c.measure.ensures _ c.in-Whole.is (sym c.wrong_count.ensures ∙ c.if-wrong_count.false) c.if-out-count.false in
+    record { answer = wrote_answer _ _ _ r (whole_is c.args.form c.args.body.now (length c.args.out.now) _ c.measure.ensures _ c.in-Whole.is).1; bytes = wrote_store _ _ _ _ r c.write_items.ensures }

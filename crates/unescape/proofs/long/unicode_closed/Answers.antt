@@ -1,17 +1,7 @@
 use mathlib.Core.Path.{sym, ◌∙◌}
 use native.Mathlib.Omega.{arith}
-use borrow.Author.Tests.{not-false}
 use Rattle.encoding.proofs.Rows.{scalar_most}
 use Rattle.unescape.proofs.long.unicode_closed.Goals as goal
-
-pub returns-then-not-some : goal.returns-then-not-some
-returns-then-not-some c = λ h. absurd (omega arith)
-
-pub returns-then-i-gt14 : goal.returns-then-i-gt14
-returns-then-i-gt14 c = λ h. absurd (omega arith)
-
-pub returns-then-not-is_scalar : goal.returns-then-not-is_scalar
-returns-then-not-is_scalar c = λ h. absurd (omega arith)
 
 pub overflow_mul-result : goal.overflow_mul-result
 overflow_mul-result c = omega (arith, scalar_most c.args.x (sym c.is_scalar.ensures ∙ c.if-not-is_scalar.false))
