@@ -198,9 +198,18 @@ before_from g s (more k ts) p q e i u =
     let a = t.start in
     let z = t.end in
     let w = before_from g s ts k.span.end p e t.rest t.stands in
-    rw (t.list, t.walks.0 e, words_before)
-    (λ x. pick (ltb (a x) (part_at (walk_at g s k.span.end p) e)) (n x ∷ (a x ∷ (z x ∷ w x))) []))
-    (λ (a : Apart g s p q u). rw (a.place e) (ap (words_before p) i ∙ none_before g s p ∙ sym (none_before (under_first g) s p)))
+    let there = tokens_at (rules_of (under_first g)) s p in
+    let at = part_at (walk_at g s k.span.end p) e in
+    let same : words_before at (more k ts) ≡ words_before at (more t.other (tokens_at (rules_of (under_first g)) s k.span.end)) =
+    (λ x. pick (ltb (a x) at) (n x ∷ (a x ∷ (z x ∷ w x))) []) in
+    ap (λ (x : ℕ). words_before x (more k ts)) (t.walks.0 e)
+    ∙ same
+    ∙ ap (words_before at) (sym t.list)
+    ∙ ap (λ (x : ℕ). words_before x there) (sym (t.walks.0 e)))
+    (λ (a : Apart g s p q u).
+    ap (λ (x : ℕ). words_before x (more k ts)) (a.place e)
+    ∙ (ap (words_before p) i ∙ none_before g s p ∙ sym (none_before (under_first g) s p))
+    ∙ ap (λ (x : ℕ). words_before x (tokens_at (rules_of (under_first g)) s p)) (sym (a.place e)))
     (at_more g s p q u k ts i)
 
 -- with no place to part at, the lists are the same to the end

@@ -23,7 +23,7 @@ use token::refusal::TOO_DEEP;
 use token::{Kind, Read, Refusal, Span, Token};
 
 // A place, and what is read there.
-#[derive(Drop)]
+#[derive(Clone, Copy)]
 struct Under {
     place: usize,
     read: Read,
