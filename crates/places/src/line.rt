@@ -7,7 +7,7 @@ ghost use Rattle.text.specs.Utf8.{from};
 use text::Scalar;
 
 // Line and column count from 1.
-#[derive(Drop)]
+#[derive(Clone, Copy, Drop)]
 pub struct Place {
     pub at: usize,
     pub line: usize,

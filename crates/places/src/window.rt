@@ -10,7 +10,7 @@ const CUT: usize = 96;
 const HALF: usize = 48;
 
 // What is shown of a line, from one place to before another, and whether something is cut on either side.
-#[derive(Drop)]
+#[derive(Clone, Copy, Drop)]
 pub struct Window {
     pub from: usize,
     pub to: usize,
@@ -19,7 +19,7 @@ pub struct Window {
 }
 
 // Where some scalars end, and how many they are.
-#[derive(Drop)]
+#[derive(Clone, Copy, Drop)]
 pub struct Reach {
     pub to: usize,
     pub count: usize,

@@ -5,7 +5,7 @@ use places::{Window, after, part};
 use text::Scalar;
 
 // The ink of marks, and how many digits the largest line number has that a finding shows.
-#[derive(Drop)]
+#[derive(Clone, Copy, Drop)]
 pub(crate) struct Sheet {
     pub ink: u8,
     pub width: usize,

@@ -4,7 +4,7 @@ use buffer::page;
 use buffer::page::Page;
 
 // The number of its texts, its span, and the stretch that it is about. A refusal has none: from and to are its end.
-#[derive(Drop)]
+#[derive(Clone, Copy, Drop)]
 pub struct Finding {
     pub number: u32,
     pub start: usize,
@@ -13,7 +13,7 @@ pub struct Finding {
     pub to: usize,
 }
 
-#[derive(Drop)]
+#[derive(Clone, Copy, Drop)]
 pub enum Severity {
     Error,
     Warning,

@@ -8,7 +8,7 @@ use token::Read;
 const MOST: usize = 40;
 
 // From one place to before another; whether its line goes on and was cut, and whether more than white space and comments follows on later lines.
-#[derive(Drop)]
+#[derive(Clone, Copy, Drop)]
 pub(crate) struct Named {
     pub from: usize,
     pub to: usize,
@@ -16,21 +16,21 @@ pub(crate) struct Named {
     pub more: bool,
 }
 
-#[derive(Drop)]
+#[derive(Clone, Copy, Drop)]
 struct Last {
     to: usize,
     more: bool,
 }
 
 // A token by the number of its kind, and its end. What is refused has number 0, which no kind has.
-#[derive(Drop)]
+#[derive(Clone, Copy, Drop)]
 pub(crate) struct Found {
     pub kind: u32,
     pub end: usize,
 }
 
 // Where the last token ends that begins on a line and is no white space and no comment, and where the line is over.
-#[derive(Drop)]
+#[derive(Clone, Copy, Drop)]
 struct Line {
     last: usize,
     over: usize,
