@@ -54,7 +54,7 @@ use Rattle.token.specs.declared.kind.Kind.TheVariants.{MultilineComment}
 use Rattle.token.specs.declared.read.Refusal.{Refusal}
 use Rattle.token.specs.declared.read.Token.{Token}
 use Rattle.unescape.proofs.Faults.{unescape_refusal}
-use Rattle.unescape.proofs.Unescaped.{Bare, as_it_stands, as_long, no_longer, one_item, only_output, refused_nothing, well_formed}
+use Rattle.unescape.proofs.Holds.{Bare, as_it_stands, as_long, no_longer, one_item, only_output, refused_nothing, well_formed}
 use Rattle.unescape.specs.Bodies.{unescape_of, wrote}
 use Rattle.emitted.proofs.Refused.{refused_number, refused_same}
 use Rattle.emitted.specs.Sequence.{Call, IsFront, accepted, emitted, is_end, turn_of, without}
