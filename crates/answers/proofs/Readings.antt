@@ -1,6 +1,6 @@
 -- What a call promises, by the reading that its number names. Assumes nothing.
 use Prim.Native.Nat.{ℕ}
-use mathlib.Core.Path.{◌≡◌, subst}
+use mathlib.Core.Path.{◌≡◌, sym, ap, subst}
 use mathlib.Core.List.{List}
 use lib.Seq.{sets}
 use borrow.Author.Tests.{ne_eqb}
@@ -8,6 +8,7 @@ use Rattle.answers.proofs.Promises.{Left-by, Told-by}
 use Rattle.answers.specs.Readings.{reading_of, tells_by, writes_by}
 use Rattle.answers.specs.Told.{told_as}
 use Rattle.answers.specs.declared.Told.{Told}
+use Rattle.readers.specs.Rules.{first_close, rune}
 use Rattle.readers.specs.declared.reading.Chosen.{Chosen}
 use Rattle.readers.specs.declared.reading.Chosen.TheVariants.{NoReading, OneReading}
 use Rattle.readers.specs.declared.reading.Reading.{Reading}
@@ -16,6 +17,14 @@ use Rattle.readers.specs.declared.reading.Reading.{Reading}
 pub reading_none : (n : ℕ) → (n ≡ 1 → ⊥) → (n ≡ 2 → ⊥) → NoReading ≡ reading_of n
 unfolding reading_of
 reading_none n a b = rw (ne_eqb n 1 a, ne_eqb n 2 b)
+
+pub reading_one : (n : ℕ) → n ≡ 1 → OneReading rune ≡ reading_of n
+unfolding reading_of
+reading_one n e = sym (ap reading_of e)
+
+pub reading_two : (n : ℕ) → n ≡ 2 → OneReading first_close ≡ reading_of n
+unfolding reading_of
+reading_two n e = sym (ap reading_of e)
 
 module _ (n : ℕ) (f : Reading → Told) (r : ℕ) (v : List ℕ) where
   pub told_none : NoReading ≡ reading_of n → Told-by (told_as 6 0 0 0 0 0) r v → Told-by (tells_by (reading_of n) f) r v

@@ -5,6 +5,7 @@ ghost use Rattle.answers.specs.Readings.{reading_of};
 use readers::{Chosen, Comments, Reading};
 
 // By halves, so that neither reading costs a call more than the other.
+#[tactic(auto, using(crate::proofs::Readings::reading_none, crate::proofs::Readings::reading_one, crate::proofs::Readings::reading_two))]
 pub fn reading_of(n: u32) -> Chosen
     ensures { result ≡ reading_of n }
 {
