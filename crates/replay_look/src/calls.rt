@@ -73,7 +73,7 @@ fn code_of(code: u8, n: u8) -> u8 {
     }
 }
 
-fn is_done(answer: Looked) -> bool {
+fn is_done(answer: &Looked) -> bool {
     match answer {
         Looked::Refused { number: _ } => false,
         _ => true,
@@ -111,8 +111,9 @@ pub fn put_calls(
             n,
             list,
         );
+        let done = is_done(&answer);
         out = put_looked(out, code, answer, written);
-        if !is_done(answer) {
+        if !done {
             return out;
         }
         i = i + 2;

@@ -122,7 +122,13 @@ fn read_frame(from: &mut Stdin, payload: &mut [u8]) -> Frame {
 }
 
 // A frame's answer and a line `.`; false where there was none, or nobody reads.
-fn turn(from: &mut Stdin, to: Stdout, payload: &mut [u8; 65536], list: &mut [u32; 12288], written: &mut [u32; 12288]) -> bool {
+fn turn(
+    from: &mut Stdin,
+    to: Stdout,
+    payload: &mut [u8; 65536],
+    list: &mut [u32; 12288],
+    written: &mut [u32; 12288],
+) -> bool {
     let Frame::Script { keep, source, end } = read_frame(from, payload) else {
         return false;
     };
@@ -131,7 +137,13 @@ fn turn(from: &mut Stdin, to: Stdout, payload: &mut [u8; 65536], list: &mut [u32
 }
 
 // Nothing says that the input ends: the number of turns falls.
-fn answer_all(from: &mut Stdin, to: Stdout, payload: &mut [u8; 65536], list: &mut [u32; 12288], written: &mut [u32; 12288]) {
+fn answer_all(
+    from: &mut Stdin,
+    to: Stdout,
+    payload: &mut [u8; 65536],
+    list: &mut [u32; 12288],
+    written: &mut [u32; 12288],
+) {
     let mut turns = u64::MAX;
     while turns > 0 {
         if !turn(from, to, payload, list, written) {
@@ -150,5 +162,11 @@ fn main(rt: HostRuntime) {
     let mut payload = [0u8; 65536];
     let mut list = words();
     let mut written = words();
-    answer_all(&mut rt.stdin(), rt.stdout(), &mut payload, &mut list, &mut written);
+    answer_all(
+        &mut rt.stdin(),
+        rt.stdout(),
+        &mut payload,
+        &mut list,
+        &mut written,
+    );
 }
