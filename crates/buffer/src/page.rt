@@ -2,6 +2,7 @@
 // A lent buffer is proved anew at every call that it is lent to; a page costs a caller next to nothing. It is small, since it is copied.
 // Every function here is safe and ends. What reaches standard output no contract can say: runs show it.
 
+use crate::fault::has_no_reader;
 use crate::{Output, output_to};
 use std::io::Stdout;
 
@@ -99,4 +100,9 @@ pub fn flush(page: Page) -> bool {
     let mut to = page.to;
     let bytes = page.bytes;
     crate::flush(&mut to, &bytes, page.waiting)
+}
+
+// Nobody reads any more what is written.
+pub fn is_left(page: &Page) -> bool {
+    has_no_reader(page.to.fault)
 }

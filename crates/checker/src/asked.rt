@@ -1,8 +1,10 @@
 // What the arguments ask for, one after the other: an option holds for the files after it.
 use places::part;
 use readers::{Chosen, Comments, Reading};
+use std::io::Stderr;
+use std::rt::Env;
 
-#[derive(Drop)]
+#[derive(Clone, Copy, Drop)]
 pub(crate) enum Layout {
     Text,
     Json,
@@ -10,7 +12,7 @@ pub(crate) enum Layout {
 }
 
 // expects says that the value of `--comments` comes next.
-#[derive(Drop)]
+#[derive(Clone, Copy, Drop)]
 pub(crate) struct Settings {
     pub reading: Reading,
     pub layout: Layout,
@@ -130,26 +132,30 @@ fn step_by(settings: Settings, word: &[u8]) -> Step {
 }
 
 // The argument goes to name. One that does not fit there is as good as an empty one: it names no file.
-pub(crate) fn read_argument(i: usize, settings: Settings, name: &mut [u8]) -> Step {
-    let length = os::arg(i, name);
+pub(crate) fn read_argument(rt: &impl Env, i: usize, settings: Settings, name: &mut [u8]) -> Step {
+    let length = arguments::word(rt, i, name);
     step_by(settings, part(name, 0, length))
 }
 
-fn tell_wrong(expects: bool, word: &[u8]) {
+fn tell(err: Stderr, bytes: &[u8]) {
+    let _ = err.write_all(bytes);
+}
+
+fn tell_wrong(err: Stderr, expects: bool, word: &[u8]) {
     if expects {
-        io::write_all(
-            2,
+        tell(
+            err,
             b"checker: after --comments comes crate or first, and not ",
         );
     } else {
-        io::write_all(2, b"checker: there is no option ");
+        tell(err, b"checker: there is no option ");
     }
-    io::write_all(2, word);
-    io::write_all(2, b"\n");
+    tell(err, word);
+    tell(err, b"\n");
 }
 
-fn tell_missing() {
-    io::write_all(2, b"checker: after --comments comes crate or first\n");
+fn tell_missing(err: Stderr) {
+    tell(err, b"checker: after --comments comes crate or first\n");
 }
 
 // What the arguments so far ask for, how many files they name, and whether one is wrong.
@@ -160,8 +166,8 @@ struct Seen {
     wrong: bool,
 }
 
-fn see(i: usize, seen: Seen, name: &mut [u8]) -> Seen {
-    let length = os::arg(i, name);
+fn see(rt: &impl Env, err: Stderr, i: usize, seen: Seen, name: &mut [u8]) -> Seen {
+    let length = arguments::word(rt, i, name);
     let word = part(name, 0, length);
     let settings = seen.settings;
     match step_by(settings, word) {
@@ -176,7 +182,7 @@ fn see(i: usize, seen: Seen, name: &mut [u8]) -> Seen {
             wrong: false,
         },
         Step::Wrong => {
-            tell_wrong(settings.expects, word);
+            tell_wrong(err, settings.expects, word);
             Seen {
                 settings,
                 files: 0,
@@ -187,8 +193,8 @@ fn see(i: usize, seen: Seen, name: &mut [u8]) -> Seen {
 }
 
 // How many files are named; 0 where the arguments are wrong, which is told.
-pub(crate) fn count_files(name: &mut [u8]) -> usize {
-    let count = os::arg_count();
+pub(crate) fn count_files(rt: &impl Env, err: Stderr, name: &mut [u8]) -> usize {
+    let count = arguments::count(rt);
     let mut seen = Seen {
         settings: default_settings(),
         files: 0,
@@ -196,7 +202,7 @@ pub(crate) fn count_files(name: &mut [u8]) -> usize {
     };
     let mut i: usize = 1;
     while i < count {
-        seen = see(i, seen, name);
+        seen = see(rt, err, i, seen, name);
         if seen.wrong {
             return 0;
         }
@@ -204,15 +210,15 @@ pub(crate) fn count_files(name: &mut [u8]) -> usize {
     }
     let last = seen.settings;
     if last.expects {
-        tell_missing();
+        tell_missing(err);
         return 0;
     }
     seen.files
 }
 
-pub(crate) fn say_usage() {
-    io::write_all(
-        2,
+pub(crate) fn say_usage(err: Stderr) {
+    tell(
+        err,
         b"usage: checker [--comments crate|first] [--text|--json] [--colour] [--quiet] FILE..\n",
     );
 }

@@ -3,10 +3,23 @@ use crate::asked::{Layout, Settings, Step};
 use crate::records::{Told, put_records, put_refusal};
 use crate::tally::{Tally, put_tally};
 use crate::{asked, tally};
+use buffer::fault::{Fault, fault_of, ill_formed};
 use buffer::page::{Page, put_bytes, put_decimal};
-use buffer::{Filled, page};
+use buffer::{Filled, fault, page};
 use listing::Listed;
 use places::part;
+use std::fs::File;
+use std::io::{Stderr, Stdin, Stdout};
+use std::rt::{Env, Files};
+use std::str;
+
+// The streams of the program.
+#[derive(Clone, Copy, Drop)]
+pub(crate) struct Streams {
+    pub from: Stdin,
+    pub to: Stdout,
+    pub err: Stderr,
+}
 
 #[derive(Drop)]
 pub(crate) struct Run {
@@ -15,36 +28,38 @@ pub(crate) struct Run {
     pub tally: Tally,
 }
 
-fn tell_unread(file: &[u8]) {
-    io::write_all(2, b"checker: cannot read ");
-    os::fail(file);
+fn tell_unread(err: Stderr, file: &[u8], why: Fault) {
+    let _ = err.write_all(b"checker: cannot read ");
+    fault::tell(err, file, why);
 }
 
-fn opened(file: &[u8]) -> i32 {
-    if check::same(file, b"-") {
-        return 0;
-    }
-    os::open_read(file)
-}
-
-// Why a file cannot be read is told before it is closed, which may forget it.
-fn filled_or_told(fd: i32, file: &[u8], source: &mut [u8]) -> Filled {
-    let Filled::Bytes { count } = buffer::fill(fd, source) else {
-        tell_unread(file);
-        return Filled::Failed;
+// A file by its name.
+fn fill_named(rt: &impl Files, file: &[u8], source: &mut [u8]) -> Filled {
+    let Ok(name) = str::from_utf8(file) else {
+        return Filled::Failed {
+            fault: ill_formed(),
+        };
     };
-    Filled::Bytes { count }
+    match File::open(rt, name) {
+        Ok(mut from) => buffer::fill(&mut from, source),
+        Err(error) => Filled::Failed {
+            fault: fault_of(error),
+        },
+    }
 }
 
-fn read_file(file: &[u8], source: &mut [u8]) -> Filled {
-    let fd = opened(file);
-    if fd < 0 {
-        tell_unread(file);
-        return Filled::Failed;
+fn fill(rt: &impl Files, from: Stdin, file: &[u8], source: &mut [u8]) -> Filled {
+    if check::same(file, b"-") {
+        let mut from = from;
+        return buffer::fill(&mut from, source);
     }
-    let filled = filled_or_told(fd, file, source);
-    if fd != 0 {
-        libc::close(fd);
+    fill_named(rt, file, source)
+}
+
+fn read_file(rt: &impl Files, streams: Streams, file: &[u8], source: &mut [u8]) -> Filled {
+    let filled = fill(rt, streams.from, file, source);
+    if let Filled::Failed { fault } = &filled {
+        tell_unread(streams.err, file, *fault);
     }
     filled
 }
@@ -125,6 +140,8 @@ fn unread(run: Run) -> Run {
 }
 
 fn check_file(
+    rt: &impl Files,
+    streams: Streams,
     file: &[u8],
     source: &mut [u8; 65537],
     store: &mut [u32; 5000],
@@ -132,7 +149,10 @@ fn check_file(
     run: Run,
 ) -> Run {
     let run = flushed(run);
-    let Filled::Bytes { count } = read_file(file, source) else {
+    if page::is_left(&run.out) {
+        return run;
+    }
+    let Filled::Bytes { count } = read_file(rt, streams, file, source) else {
         return unread(run);
     };
     check_source(file, part(source, 0, count), store, files, run)
@@ -148,7 +168,9 @@ fn set(run: Run, settings: Settings) -> Run {
     }
 }
 
-fn take_argument(
+fn take_argument<R: Files + Env>(
+    rt: &R,
+    streams: Streams,
     i: usize,
     name: &mut [u8; 4096],
     source: &mut [u8; 65537],
@@ -157,8 +179,16 @@ fn take_argument(
     run: Run,
 ) -> Run {
     let settings = run.settings;
-    match asked::read_argument(i, settings, name) {
-        Step::File { length } => check_file(part(name, 0, length), source, store, files, run),
+    match asked::read_argument(rt, i, settings, name) {
+        Step::File { length } => check_file(
+            rt,
+            streams,
+            part(name, 0, length),
+            source,
+            store,
+            files,
+            run,
+        ),
         Step::Set { settings } => set(run, settings),
         Step::Wrong => run,
     }
@@ -177,21 +207,23 @@ fn put_last_line(files: usize, run: Run) -> Page {
     put_tally(put_bytes(out, b" files: "), run.tally)
 }
 
-pub(crate) fn check_files(
+pub(crate) fn check_files<R: Files + Env>(
+    rt: &R,
+    streams: Streams,
     files: usize,
     name: &mut [u8; 4096],
     source: &mut [u8; 65537],
     store: &mut [u32; 5000],
 ) -> Run {
-    let count = os::arg_count();
+    let count = arguments::count(rt);
     let mut run = Run {
         settings: asked::default_settings(),
-        out: page::blank(),
+        out: page::blank(streams.to),
         tally: tally::nothing(),
     };
     let mut i: usize = 1;
     while i < count {
-        run = take_argument(i, name, source, store, files, run);
+        run = take_argument(rt, streams, i, name, source, store, files, run);
         i = i + 1;
     }
     let settings = run.settings;

@@ -2,7 +2,7 @@
 use buffer::page::{Page, put, put_bytes, put_decimal};
 use report::{Severity, put_if};
 
-#[derive(Drop)]
+#[derive(Clone, Copy, Drop)]
 pub(crate) struct Tally {
     pub errors: usize,
     pub warnings: usize,
