@@ -68,6 +68,29 @@ stretch_short form s p {v} {x} {limit} {m} q r u e l =
     subst (Stretch form s p (p + 2)) low (stretch_item form s p 0x5c (p + 1) h.step (Item (item_in x) (p + 2)) h.item (item_in x) (p + 2) refl)
 
 -- any other, as `begin_at` found it: e
+module _ (form : Form) (s : List ℕ) (p : ℕ) (h : p < length s) (d : after (rest s p) p ≡ length s) (e : Escape) (q : e ≡ begins_of form (rest s p) p) where
+  begun {ℓ} : {X : Type ℓ} → ((v n : ℕ) → Step s p v n → e ≡ item_of form v (rest s n) n → X) → X
+  begun f = by_step s p (λ z. absurd (omega (arith, after_end s p z))) (λ v n t. f v n t (q ∙ sym (begins_item form s p v n t)))
+
+  pub begun_past : p < place_of e
+  begun_past = begun (λ v n t g. next_past form s p v n t e g)
+
+  pub begun_room : place_of e ≤ length s
+  begun_room = begun (λ v n t g. next_room form s p v n t e g)
+
+  pub begun_byte : (x m : ℕ) → e ≡ Item x m → is_bytes form ≡ true → x ≤ 0xff
+  begun_byte x m k = begun (λ v n t g. (fits_here form s p v n t e g x m k).byte)
+
+  pub begun_item : (x m : ℕ) → e ≡ Item x m → Stretch form s p m (item_bytes form x)
+  begun_item x m k = begun (λ v n t g. stretch_item form s p v n t e g x m k)
+
+  pub begun_skipped : (m : ℕ) → e ≡ Skipped m → Stretch form s p m []
+  begun_skipped m k = begun (λ v n t g. stretch_skipped form s p v n t e g m k)
+
+  pub begun_bad : (number m : ℕ) → e ≡ Bad number m → body_at form s p ≡ no_more (fault number p m)
+  begun_bad number m k = begun (λ v n t g. body_bad form s p v n t e g number m k)
+
+-- .. all of it at once
 pub record Begun (form : Form) (s : List ℕ) (p : ℕ) (e : Escape) : Type 0 where
   pub past : p < place_of e
   pub room : place_of e ≤ length s
@@ -76,19 +99,16 @@ pub record Begun (form : Form) (s : List ℕ) (p : ℕ) (e : Escape) : Type 0 wh
   pub skipped : (m : ℕ) → e ≡ Skipped m → Stretch form s p m []
   pub bad : (number m : ℕ) → e ≡ Bad number m → body_at form s p ≡ no_more (fault number p m)
 
-pub begun : (form : Form) (s : List ℕ) (p : ℕ) → p < length s → after (rest s p) p ≡ length s → (e : Escape) → e ≡ begins_of form (rest s p) p → Begun form s p e
-begun form s p h d e q =
-    by_step s p (λ z. absurd (omega (arith, after_end s p z)))
-    (λ v n t.
-    let g : e ≡ item_of form v (rest s n) n = q ∙ sym (begins_item form s p v n t) in
+pub begun_here : (form : Form) (s : List ℕ) (p : ℕ) → p < length s → after (rest s p) p ≡ length s → (e : Escape) → e ≡ begins_of form (rest s p) p → Begun form s p e
+begun_here form s p h d e q =
     record {
-      past = next_past form s p v n t e g;
-      room = next_room form s p v n t e g;
-      byte = λ x m k. (fits_here form s p v n t e g x m k).byte;
-      item = λ x m k. stretch_item form s p v n t e g x m k;
-      skipped = λ m k. stretch_skipped form s p v n t e g m k;
-      bad = λ number m k. body_bad form s p v n t e g number m k;
-    })
+      past = begun_past form s p h d e q;
+      room = begun_room form s p h d e q;
+      byte = begun_byte form s p h d e q;
+      item = begun_item form s p h d e q;
+      skipped = begun_skipped form s p h d e q;
+      bad = begun_bad form s p h d e q;
+    }
 
 no_length : (l : List ℕ) → length l ≤ 0 → l ≡ []
 no_length [] h = refl

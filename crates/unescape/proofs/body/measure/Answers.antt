@@ -6,7 +6,7 @@ use Rattle.items.proofs.Lands.{place_of}
 use Rattle.runs.specs.Runs.{begins_of}
 use Rattle.text.specs.Utf8.{rest}
 use Rattle.unescape.proofs.Passes.{Measuring, measured_bad, measured_end, measuring_first, measuring_next, measuring_run, measuring_same}
-use Rattle.unescape.proofs.Stretches.{Begun, begun, stretch_short}
+use Rattle.unescape.proofs.Stretches.{Begun, begun_here, stretch_short}
 use Rattle.unescape.proofs.body.measure.Goals.{After-run_end-p, Else-s-p, Then-short_escape-limit}
 use Rattle.unescape.proofs.body.measure.Goals as goal
 
@@ -22,7 +22,7 @@ short c m =
 
 -- what begins there
 other : (c : Else-s-p) {n : ℕ} → Measuring c.args.form c.args.s.now c.run_end-p.result n → (e : Escape) → e ≡ begins_of c.args.form (rest c.args.s.now c.run_end-p.result) c.run_end-p.result → Begun c.args.form c.args.s.now c.run_end-p.result e
-other c m e q = begun c.args.form c.args.s.now c.run_end-p.result c.if-s-p.false m.sound e q
+other c m e q = begun_here c.args.form c.args.s.now c.run_end-p.result c.if-s-p.false m.sound e q
 
 pub loop-form-init : goal.loop-form-init
 loop-form-init c = measuring_first _ _ c.requires

@@ -8,7 +8,7 @@ use Rattle.runs.proofs.Shorts.{short_some}
 use Rattle.runs.specs.Runs.{begins_of, item_in}
 use Rattle.text.specs.Utf8.{rest}
 use Rattle.unescape.proofs.Passes.{Writing, room_next, room_run, writing_first, writing_next, writing_run, writing_same, written_bad, written_end}
-use Rattle.unescape.proofs.Stretches.{Begun, Stretch, begun, stretch_short}
+use Rattle.unescape.proofs.Stretches.{Begun, Stretch, begun_here, stretch_short}
 use Rattle.unescape.proofs.body.write_items.Goals.{After-copy_run-p, Else-s-p, Then-short-limit}
 use Rattle.unescape.proofs.body.write_items.Goals as goal
 
@@ -22,7 +22,7 @@ short c = stretch_short c.args.form c.args.s.now c.copy_run-p.result c.escaped_a
 
 -- .. and any other
 other : (c : Else-s-p) {o q : List ℕ} {n : ℕ} → Writing c.args.form c.args.s.now o q c.copy_run-p.result n → (e : Escape) → e ≡ begins_of c.args.form (rest c.args.s.now c.copy_run-p.result) c.copy_run-p.result → Begun c.args.form c.args.s.now c.copy_run-p.result e
-other c m e q = begun c.args.form c.args.s.now c.copy_run-p.result c.if-s-p.false m.sound e q
+other c m e q = begun_here c.args.form c.args.s.now c.copy_run-p.result c.if-s-p.false m.sound e q
 
 pub loop-form-init : goal.loop-form-init
 loop-form-init c = writing_first _ _ _ c.requires
