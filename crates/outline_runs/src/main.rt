@@ -147,7 +147,7 @@ enum Tried {
 }
 
 // How many bytes and words of the lent arrays the sources and their lists have.
-#[derive(Drop)]
+#[derive(Clone, Copy, Drop)]
 struct Rooms {
     bytes: usize,
     words: usize,
