@@ -69,7 +69,7 @@ use Rattle.demands.proofs.Refused.{all_refuse, list_front, list_no_place, list_n
 
 -- Demand 1. Every public call answers on every input and ends: Rattle proves that of every function, and no public one has a `requires`.
 
--- What is over_long is refused with 1 at 0, what is ill_formed_law with 2 at its first bad sequence: by every call that takes a source, which then writes nothing.
+-- What is over-long is refused with 1 at 0, what is ill-formed with 2 at its first bad sequence: by every call that takes a source, which then writes nothing.
 pub over_long : (s : List ℕ) → 65536 < length s → AllRefuse s (point_refusal 1 0)
 over_long s h = all_refuse s (point_refusal 1 0) (test_long s h)
 
@@ -156,7 +156,7 @@ module _ (t : ℕ) (l : List ℕ) (call : Call) (st : State) (number : ℕ) (e :
   look_writes_nothing = refused_same t l call st number e
 
 -- Demand 2. Token lists, refusals, unescaped text and lookahead states equal the definitions: each call's promise says so, and any two results that it allows are equal.
--- `determined` stands for each call in Calls.antt: here for the tests, reading, listing and the outline, and in source, storage, emitted, findings, puffsatchel, puffsatchel_bytes, puffsatchel_look; for escapes it is `unescape-determined`.
+-- `determined` stands for each call in Calls.antt: here for the tests, reading, listing and the outline, and in source, storage, emitted, findings, puffsatchel, puffsatchel_bytes, puffsatchel_look; for escapes it is `unescape_determined`.
 -- The definitions are the ones wanted. Accepted spans cover the source with no gap, and no token is empty.
 pub tokens_cover : (g : Reading) (s : List ℕ) → source_test s ≡ Sound → Covers (tokens_at (rules_of g) s 0) 0 (length s)
 tokens_cover g s h = covers g s h
@@ -179,7 +179,7 @@ exponent_examples_law = exponents_read
 pub numbers_as_before : (g : Reading) (s : List ℕ) → none_signed (rest s 0) ≡ true → tokens_at (rules_of g) s 0 ≡ tokens_at (plain_numbers (rules_of g)) s 0
 numbers_as_before g s h = old_numbers g s 0 h
 
--- Unescaped text, template and char bodies are well_formed; a char or a byte gives one item; and never more bytes come out than the body has.
+-- Unescaped text, template and char bodies are well-formed; a char or a byte gives one item; and never more bytes come out than the body has.
 module _ (form : Form) (s : List ℕ) (room n : ℕ) (e : (unescape_of form s room).answer ≡ IsWritten n) where
   pub text_well_formed : is_bytes form ≡ false → source_test (unescape_of form s room).bytes ≡ Sound
   text_well_formed h = well_formed form s room n e h

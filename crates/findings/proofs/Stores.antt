@@ -17,7 +17,6 @@ use Rattle.findings.specs.declared.store.Spotted.{Spotted}
 use Rattle.findings.specs.declared.store.Spotted.TheVariants.{Nothing, One}
 use Rattle.laws.proofs.Cases.{never, split}
 use Rattle.laws.proofs.Sets.{sets_append}
-use Rattle.laws.specs.Bools.{same}
 use Rattle.listing.specs.declared.Listed.{Listed}
 use Rattle.listing.specs.declared.Listed.TheVariants.{Stopped}
 

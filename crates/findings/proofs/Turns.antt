@@ -8,7 +8,6 @@ use lib.Dec.{leb, eqb}
 use lib.Seq.{sets}
 use lib.ListN.{length}
 use Rattle.families.proofs.Cover.{by_read}
-use Rattle.families.proofs.Starred.{reads}
 use Rattle.families.proofs.Steps.{reached_within, refused_past, tokens_fin, tokens_halt, tokens_more, tokens_past, tokens_room}
 use Rattle.families.specs.Tokens.{tokens_at}
 use Rattle.findings.proofs.Readings.{head_next}

@@ -1,5 +1,4 @@
 use mathlib.Core.Path.{sym, ◌∙◌}
-use borrow.Author.Tests.{not-false, not-true}
 use Rattle.findings.proofs.Readings.{code_blank, code_found, code_halted, code_plain, code_refused}
 use Rattle.findings.proofs.walk.as_code.Goals as goal
 
@@ -10,10 +9,10 @@ pub returns-in_default-b : goal.returns-in_default-b
 returns-in_default-b c = code_halted c.args.at c.args.place c.args.a c.args.b c.in-Got.token c.in-Got.is c.in_default-b.field-0 c.in_default-b.is
 
 pub returns-then-not-is_comment : goal.returns-then-not-is_comment
-returns-then-not-is_comment c = code_plain c.args.at c.args.place c.args.a c.args.b c.in-Got.token c.in-Got.is c.in-Got-b.other c.in-Got-b.is (sym c.is_comment.ensures ∙ not-true _ c.if-not-is_comment.true-raw)
+returns-then-not-is_comment c = code_plain c.args.at c.args.place c.args.a c.args.b c.in-Got.token c.in-Got.is c.in-Got-b.other c.in-Got-b.is (sym c.is_comment.ensures ∙ c.if-not-is_comment.true)
 
 pub returns-then-is_blank : goal.returns-then-is_blank
-returns-then-is_blank c = code_blank c.args.at c.args.place c.args.a c.args.b c.in-Got.token c.in-Got.is c.in-Got-b.other c.in-Got-b.is (sym c.is_comment.ensures ∙ not-false _ c.if-not-is_comment.false-raw) (sym c.is_blank.ensures ∙ c.if-is_blank.true)
+returns-then-is_blank c = code_blank c.args.at c.args.place c.args.a c.args.b c.in-Got.token c.in-Got.is c.in-Got-b.other c.in-Got-b.is (sym c.is_comment.ensures ∙ c.if-not-is_comment.false) (sym c.is_blank.ensures ∙ c.if-is_blank.true)
 
 pub returns : goal.returns
-returns c = code_found c.args.at c.args.place c.args.a c.args.b c.in-Got.token c.in-Got.is c.in-Got-b.other c.in-Got-b.is (sym c.is_comment.ensures ∙ not-false _ c.if-not-is_comment.false-raw) (sym c.is_blank.ensures ∙ c.if-is_blank.false)
+returns c = code_found c.args.at c.args.place c.args.a c.args.b c.in-Got.token c.in-Got.is c.in-Got-b.other c.in-Got-b.is (sym c.is_comment.ensures ∙ c.if-not-is_comment.false) (sym c.is_blank.ensures ∙ c.if-is_blank.false)

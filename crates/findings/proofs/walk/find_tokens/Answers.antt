@@ -1,4 +1,3 @@
-use Prim.Native.Nat.{◌-◌}
 use mathlib.Core.Path.{sym, ap, ◌∙◌, subst}
 use native.Mathlib.Omega.{arith}
 use Rattle.findings.proofs.Turns.{after_full, after_went, turn_alone, turn_full, turn_less, turn_small, turn_went, walk_halt, walk_more, walk_whole, walked_first}

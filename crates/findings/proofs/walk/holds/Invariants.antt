@@ -2,7 +2,6 @@ use Prim.Native.Nat.{◌-◌}
 use mathlib.Core.Path.{◌≡◌}
 use lib.ListN.{length}
 use Rattle.findings.specs.Findings.{holds_at}
-use Rattle.text.specs.Utf8.{from}
 use Rattle.findings.proofs.walk.holds.Given as goal
 
 abbrev pub invariant-loop-p : goal.invariant-loop-p
