@@ -1,8 +1,9 @@
 // Why the system did not read or write.
-ghost use Rattle.std.specs.Prelude.{◌≤◌, length};
+ghost use Rattle.std.specs.Prelude.{◌≡◌, ◌≤◌, ◌↔◌, IsTrue, length, pos, unwrap_or};
+ghost use Rattle.std.specs.IoError.{raw_os_error};
 
 use std::io;
-use std::io::{Cursor, ErrorKind, Stderr, Write};
+use std::io::{Cursor, Stderr, Write};
 
 // The system's number, or 0 for none.
 #[derive(Clone, Copy, Drop)]
@@ -10,24 +11,32 @@ pub struct Fault {
     pub number: i32,
 }
 
-pub fn none() -> Fault {
+pub fn none() -> Fault
+    ensures { result.number ≡ pos 0 }
+{
     Fault { number: 0 }
 }
 
-pub fn fault_of(error: io::Error) -> Fault {
+pub fn fault_of(error: io::Error) -> Fault
+    ensures { result.number ≡ unwrap_or (raw_os_error error) (pos 0) }
+{
     Fault {
         number: error.raw_os_error().unwrap_or(0),
     }
 }
 
 // A name that is not UTF-8 opens no file.
-pub fn ill_formed() -> Fault {
+pub fn ill_formed() -> Fault
+    ensures { result.number ≡ pos 84 }
+{
     Fault { number: 84 }
 }
 
 // Nobody reads any more, who is told nothing.
-pub fn has_no_reader(fault: Fault) -> bool {
-    io::Error::from_raw_os_error(fault.number).kind() == ErrorKind::BrokenPipe
+pub fn has_no_reader(fault: Fault) -> bool
+    ensures { IsTrue result ↔ (fault.number ≡ pos 32) }
+{
+    fault.number == 32
 }
 
 // Where the text ends before the ` (os error N)` that the library puts after it.

@@ -6,7 +6,7 @@
 pub mod fault;
 pub mod page;
 
-ghost use Rattle.std.specs.Prelude.{◌≤◌, length};
+ghost use Rattle.std.specs.Prelude.{◌≡◌, ◌≤◌, length, pos};
 ghost use Rattle.buffer.specs.Fits.{Fits};
 
 use fault::{Fault, fault_of};
@@ -31,7 +31,9 @@ pub enum Filled {
     Failed { fault: Fault },
 }
 
-pub fn output_to(to: Stdout) -> Output {
+pub fn output_to(to: Stdout) -> Output
+    ensures { result.fault.number ≡ pos 0 }
+{
     Output {
         to,
         fault: fault::none(),

@@ -2,6 +2,8 @@
 // A lent buffer is proved anew at every call that it is lent to; a page costs a caller next to nothing. It is small, since it is copied.
 // Every function here is safe and ends. What reaches standard output no contract can say: runs show it.
 
+ghost use Rattle.std.specs.Prelude.{◌≡◌, ◌↔◌, IsTrue, pos};
+
 use crate::fault::has_no_reader;
 use crate::{Output, output_to};
 use std::io::Stdout;
@@ -103,6 +105,8 @@ pub fn flush(page: Page) -> bool {
 }
 
 // Nobody reads any more what is written.
-pub fn is_left(page: &Page) -> bool {
+pub fn is_left(page: &Page) -> bool
+    ensures { IsTrue result ↔ (page.now.to.fault.number ≡ pos 32) }
+{
     has_no_reader(page.to.fault)
 }

@@ -16,15 +16,15 @@ enum Class {
     Continue,
 }
 
-fn name_of(class: Class) -> &'static str {
-    match class {
-        Class::White => "white",
-        Class::Control => "control",
-        Class::Digit => "digit",
-        Class::Hex => "hex",
-        Class::Start => "start",
-        Class::Continue => "continue",
-    }
+fn print_name(to: Stdout, class: Class) {
+    let _ = match class {
+        Class::White => to.print("white "),
+        Class::Control => to.print("control "),
+        Class::Digit => to.print("digit "),
+        Class::Hex => to.print("hex "),
+        Class::Start => to.print("start "),
+        Class::Continue => to.print("continue "),
+    };
 }
 
 fn is_member(class: Class, v: u32) -> bool {
@@ -39,8 +39,8 @@ fn is_member(class: Class, v: u32) -> bool {
 }
 
 fn print_run(to: Stdout, class: Class, start: u32, last: u32) {
-    let name = name_of(class);
-    let _ = println!(to; "{name} {start:x} {last:x}");
+    print_name(to, class);
+    let _ = println!(to; "{start:x} {last:x}");
 }
 
 // Prints the runs among the numbers from `low` to `high`; the answer is how many of them are members.
@@ -74,8 +74,8 @@ fn walk(to: Stdout, class: Class, low: u32, high: u32) -> u64
 
 fn list(to: Stdout, class: Class) {
     let count = walk(to, class, 0, 0x11ffff) + walk(to, class, 0xffffff00, 0xffffffff);
-    let name = name_of(class);
-    let _ = println!(to; "{name} count {count}");
+    print_name(to, class);
+    let _ = println!(to; "count {count}");
 }
 
 fn main(rt: HostRuntime) {
