@@ -53,6 +53,7 @@ pub fn check_record(n: usize, last: u32, kind: u32, start: u32, end: u32) -> Che
     Checked::Good
 }
 
+#[tactic(auto, using(crate::proofs::Rows::list_refused))]
 pub fn check_list(list: &[u32]) -> Checked
     ensures { result ≡ list_check list.now }
 {

@@ -8,7 +8,7 @@ use lib.ListN.{drop, get_or, length, set}
 use borrow.Author.Tests.{eq-eqb, ne_eqb}
 use Rattle.laws.proofs.Cases.{both_false, never, split_eq}
 use Rattle.rows.proofs.Puts.{Layout}
-use Rattle.rows.proofs.Rows.{Left, at_drop, first_drop}
+use Rattle.rows.proofs.Rows.{Left, Walk, at_drop, first_drop, walk_stop}
 use Rattle.rows.specs.Rows.{Row, record_check, row_check, rows_check, rows_of}
 use Rattle.rows.specs.declared.Checked.TheVariants.{Faulty, Good}
 use Rattle.storage.specs.Reader.{byte_row, bytes_check, list_words, stored_rows, token_words, u32_at}
@@ -48,6 +48,12 @@ module _ (s : List ℕ) (p n last : ℕ) where
   pub bytes_row : (k a b : ℕ) → k ≡ get_or s (p + 2) 0 → a ≡ u32_at s (p + 3) → b ≡ u32_at s (p + 7) → get_or s p 0 ≡ 0x54 → get_or s (p + 1) 0 ≡ 0x4b
       → record_check n last k a b ≡ row_check n last (byte_row (drop p s))
   bytes_row k a b e f g h i = rw (e, f, g, first_drop s p, at_drop s p 1, at_drop s p 2, word_drop s p 3, word_drop s p 7, eq-eqb _ _ h, eq-eqb _ _ i)
+
+-- a walk stops at a record whose second byte is not the mark's
+pub bytes_stop : (s : List ℕ) (at n last : ℕ) → Walk byte_row 11 s at n last → at < length s → length s % 11 ≡ 0
+    → (get_or s (at + 1) 0 ≡ 0x4b → ⊥) → Faulty (point_refusal 41 n) ≡ bytes_check s
+bytes_stop s at n last w l z h =
+    walk_stop byte_row 11 s at n last w (left_11 (length s) at l w.whole) _ (bytes_unmarked_2 s at n last h) _ refl ∙ bytes_checked s z
 
 -- tokens one after the other
 pub tokens_layout : Layout list_words token_words 3

@@ -27,6 +27,7 @@ fn word_at(bytes: &[u8], at: usize) -> u32
     word_of(bytes[at], bytes[at + 1], bytes[at + 2], bytes[at + 3])
 }
 
+#[tactic(auto, using(crate::proofs::ReadRecords::bytes_stop))]
 fn check_bytes(bytes: &[u8]) -> Checked
     ensures { result ≡ bytes_check bytes.now }
 {

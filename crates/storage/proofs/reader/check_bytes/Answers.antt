@@ -2,7 +2,7 @@ use mathlib.Core.Path.{sym, ◌∙◌}
 use native.Mathlib.Omega.{arith}
 use lib.ListN.{length}
 use Rattle.rows.proofs.Rows.{walk_end, walk_first, walk_more, walk_stop}
-use Rattle.storage.proofs.ReadRecords.{bytes_checked, bytes_refused, bytes_row, bytes_unmarked, bytes_unmarked_2, left_11, word_drop}
+use Rattle.storage.proofs.ReadRecords.{bytes_checked, bytes_refused, bytes_row, bytes_unmarked, left_11, word_drop}
 use Rattle.storage.specs.Reader.{byte_row}
 use Rattle.storage.proofs.reader.check_bytes.Goals as goal
 
@@ -20,9 +20,6 @@ overflow_add-at c = omega (arith, (left_11 (length c.args.bytes.now) c.loop-at.a
 
 pub bounds-bytes-at-in-loop-at : goal.bounds-bytes-at-in-loop-at
 bounds-bytes-at-in-loop-at c = omega (arith, (left_11 (length c.args.bytes.now) c.loop-at.at c.loop-at-test.true c.loop-at.invariant.whole).room, c.well_formed)
-
-pub returns-then-bytes-at-ne75 : goal.returns-then-bytes-at-ne75
-returns-then-bytes-at-ne75 c = walk_stop byte_row 11 c.args.bytes.now c.loop-at.at c.loop-at.n c.loop-at.last c.loop-at.invariant (left_11 (length c.args.bytes.now) c.loop-at.at c.loop-at-test.true c.loop-at.invariant.whole) c.faulty-then-bytes-at-ne75.result (c.faulty-then-bytes-at-ne75.ensures ∙ bytes_unmarked_2 c.args.bytes.now c.loop-at.at c.loop-at.n c.loop-at.last c.if-bytes-at-ne75.true) _ c.faulty-then-bytes-at-ne75.ensures ∙ bytes_checked _ c.if-bytes-ne0.false
 
 pub overflow_add-at-in-loop-at : goal.overflow_add-at-in-loop-at
 overflow_add-at-in-loop-at c = omega (arith, (left_11 (length c.args.bytes.now) c.loop-at.at c.loop-at-test.true c.loop-at.invariant.whole).room, c.well_formed)
@@ -43,7 +40,7 @@ pub bounds-bytes-at-in-loop-at-2 : goal.bounds-bytes-at-in-loop-at-2
 bounds-bytes-at-in-loop-at-2 c = omega (arith, (left_11 (length c.args.bytes.now) c.loop-at.at c.loop-at-test.true c.loop-at.invariant.whole).room, c.well_formed)
 
 pub returns-in_default : goal.returns-in_default
-returns-in_default c = walk_stop byte_row 11 c.args.bytes.now c.loop-at.at c.loop-at.n c.loop-at.last c.loop-at.invariant (left_11 (length c.args.bytes.now) c.loop-at.at c.loop-at-test.true c.loop-at.invariant.whole) c.check_record-checked.result (c.check_record-checked.ensures ∙ bytes_row c.args.bytes.now c.loop-at.at c.loop-at.n c.loop-at.last _ _ _ c.word.ensures c.word_at-start.ensures c.word_at-end.ensures c.if-bytes-at-ne84.false c.if-bytes-at-ne75.false) _ c.in_default.is ∙ bytes_checked _ c.if-bytes-ne0.false
+returns-in_default c = walk_stop byte_row 11 c.args.bytes.now c.loop-at.at c.loop-at.n c.loop-at.last c.loop-at.invariant (left_11 (length c.args.bytes.now) c.loop-at.at c.loop-at-test.true c.loop-at.invariant.whole) c.check_record-checked.result (c.check_record-checked.ensures ∙ bytes_row c.args.bytes.now c.loop-at.at c.loop-at.n c.loop-at.last _ _ _ c.word.ensures c.word_at-start.ensures c.word_at-end.ensures c.if-bytes-at-ne84.false (omega arith)) _ c.in_default.is ∙ bytes_checked _ c.if-bytes-ne0.false
 
 pub overflow_add-at-in-loop-at-4 : goal.overflow_add-at-in-loop-at-4
 overflow_add-at-in-loop-at-4 c = omega (arith, (left_11 (length c.args.bytes.now) c.loop-at.at c.loop-at-test.true c.loop-at.invariant.whole).room, c.well_formed)
@@ -55,7 +52,7 @@ pub loop-at-smaller : goal.loop-at-smaller
 loop-at-smaller c = omega (arith, (left_11 (length c.args.bytes.now) c.loop-at.at c.loop-at-test.true c.loop-at.invariant.whole).room, c.well_formed)
 
 pub loop-at-preserved : goal.loop-at-preserved
-loop-at-preserved c = walk_more byte_row 11 c.args.bytes.now c.loop-at.at c.loop-at.n c.loop-at.last c.loop-at.invariant (left_11 (length c.args.bytes.now) c.loop-at.at c.loop-at-test.true c.loop-at.invariant.whole) c.check_record-checked.result (c.check_record-checked.ensures ∙ bytes_row c.args.bytes.now c.loop-at.at c.loop-at.n c.loop-at.last _ _ _ c.word.ensures c.word_at-start.ensures c.word_at-end.ensures c.if-bytes-at-ne84.false c.if-bytes-at-ne75.false) _ c.in-Good.is (c.word_at-end.ensures ∙ sym (word_drop c.args.bytes.now c.loop-at.at 7)) (omega arith)
+loop-at-preserved c = walk_more byte_row 11 c.args.bytes.now c.loop-at.at c.loop-at.n c.loop-at.last c.loop-at.invariant (left_11 (length c.args.bytes.now) c.loop-at.at c.loop-at-test.true c.loop-at.invariant.whole) c.check_record-checked.result (c.check_record-checked.ensures ∙ bytes_row c.args.bytes.now c.loop-at.at c.loop-at.n c.loop-at.last _ _ _ c.word.ensures c.word_at-start.ensures c.word_at-end.ensures c.if-bytes-at-ne84.false (omega arith)) _ c.in-Good.is (c.word_at-end.ensures ∙ sym (word_drop c.args.bytes.now c.loop-at.at 7)) (omega arith)
 
 pub returns : goal.returns
 returns c = walk_end byte_row 11 c.args.bytes.now c.loop-at.at c.loop-at.n c.loop-at.last c.loop-at.invariant (omega (arith, c.loop-at-test.false)) ∙ bytes_checked _ c.if-bytes-ne0.false
