@@ -18,7 +18,6 @@ use Rattle.readers.specs.declared.reading.Reading.{Reading}
 use Rattle.source_test.specs.Source.{source_test}
 use Rattle.source_test.specs.declared.Tested.TheVariants.{Sound}
 use Rattle.text.specs.Characters.{letter_x}
-use Rattle.text.specs.Utf8.{rest}
 
 module _ (g : Reading) (s out : List ℕ) (h : source_test s ≡ Sound) (l : length s ≤ length out) where
   whole : length (outlined (rules_of g) s) ≡ length s

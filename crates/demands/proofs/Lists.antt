@@ -16,7 +16,6 @@ use Rattle.families.specs.Switch.{switch_safe}
 use Rattle.families.specs.Tokens.{Tokens, count_of, fin, halt, more, tokens_at}
 use Rattle.laws.proofs.Cases.{split}
 use Rattle.listing.specs.Listing.{list_answer, list_of, listed_words, stored_of}
-use Rattle.looks.specs.Buffer.{fits}
 use Rattle.numbers.proofs.Inverse.{plain_number_law}
 use Rattle.outline.specs.Outline.{inside_at, outline_answer, outline_of, outline_written, outlined, paint}
 use Rattle.readers.specs.Rules.{Rules, first_close, rules_of, rune}

@@ -10,10 +10,8 @@ use lib.ListN.{length, take}
 use borrow.Author.Tests.{eqb-false, le-ltb, lt-ltb, ltb-false, ltb-true, ne_eqb}
 use Rattle.demands.specs.Refused.{AllRefuse, FoundNoPlace, InReading, IsToken, Unread}
 use Rattle.families.proofs.Refusals.{next_refusal, tokens_refusal}
-use Rattle.families.proofs.Starred.{reads}
 use Rattle.families.specs.Refusals.{Numbered, NumberedEnd}
 use Rattle.families.specs.Tokens.{Tokens, fin, halt, more, tokens_at}
-use Rattle.findings.proofs.Shown.{finds}
 use Rattle.findings.proofs.Turns.{found_by_test}
 use Rattle.laws.proofs.Cases.{never, split, split_le}
 use Rattle.laws.specs.Bools.{pick}
@@ -21,11 +19,9 @@ use Rattle.lexer.proofs.Sources.{read_case}
 use Rattle.lexer.specs.Next.{read_at}
 use Rattle.listing.proofs.Counted.{count_in, three_words}
 use Rattle.listing.specs.Listing.{list_answer, list_of, listed_words, no_room, stored_of}
-use Rattle.looks.specs.declared.front.Front.{Front}
 use Rattle.numbers.specs.Kinds.{number_of}
 use Rattle.outline.specs.Outline.{outline_answer, outline_of, outline_written}
 use Rattle.readers.specs.Rules.{rules_of}
-use Rattle.readers.specs.Scan.{full}
 use Rattle.readers.specs.declared.reading.Reading.{Reading}
 use Rattle.rows.specs.Rows.{row_place, row_words}
 use Rattle.source_test.proofs.Places.{by_tested, position_other}

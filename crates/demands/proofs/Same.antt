@@ -10,8 +10,6 @@ use Rattle.demands.proofs.Flat.{Const, even_append, even_const, flat_after, flat
 use Rattle.demands.proofs.Shown.{Shown, asks_plain, first_out, next_shown}
 use Rattle.demands.specs.Plain.{in_bytes, plain_token, plain_tokens}
 use Rattle.demands.specs.Scalars.{Even, flat}
-use Rattle.emitted.proofs.Fronts.{front}
-use Rattle.emitted.specs.Sequence.{ends}
 use Rattle.families.proofs.Ends.{after_le, next_consumes}
 use Rattle.families.specs.Near.{Near}
 use Rattle.families.specs.Places.{place_after}

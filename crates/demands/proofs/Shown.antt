@@ -11,14 +11,10 @@ use Rattle.demands.proofs.Flat.{Const, even_append, even_const, flat_all, flat_a
 use Rattle.demands.proofs.Marked.{closes_far, first_asks, form_closes, form_inside, form_opens, in_before, in_behind, in_middle, in_plain, opens_far, opens_no_asking, opens_no_bang, opens_some, plain_kind_law}
 use Rattle.demands.specs.Plain.{in_bytes, plain_token}
 use Rattle.demands.specs.Scalars.{Even, flat}
-use Rattle.emitted.proofs.Fronts.{front}
-use Rattle.emitted.proofs.Shown.{shown}
-use Rattle.emitted.specs.Sequence.{ends}
 use Rattle.families.proofs.Ends.{after_append, after_le, next_cut}
 use Rattle.families.proofs.Local.{next_local}
 use Rattle.families.proofs.Shapes.{next_shaped}
 use Rattle.families.proofs.Shown.{token_shown}
-use Rattle.families.proofs.Starred.{reads}
 use Rattle.families.proofs.Starts.{next_start}
 use Rattle.families.specs.Near.{Near}
 use Rattle.families.specs.Places.{place_after}
@@ -29,7 +25,6 @@ use Rattle.lexer.specs.Next.{close_span, next_of}
 use Rattle.marks.specs.Marks.{close_mark, open_mark}
 use Rattle.numbers.specs.Kinds.{has_inside}
 use Rattle.outline.specs.Outline.{inside_token}
-use Rattle.readers.specs.Readers.{shut}
 use Rattle.readers.specs.Rules.{Rules}
 use Rattle.templates.specs.Body.{token_of}
 use Rattle.text.proofs.Decode.{width_pos}
@@ -39,7 +34,6 @@ use Rattle.token.specs.declared.kind.Kind.{Kind}
 use Rattle.token.specs.declared.read.Read.{Read}
 use Rattle.token.specs.declared.read.Read.TheVariants.{Got, Refused}
 use Rattle.token.specs.declared.read.Token.{Token}
-use Rattle.unescape.specs.Bodies.{whole}
 use Rattle.marks.specs.Marks as kept
 
 -- rules in bytes are sane where no word starts with a backtick

@@ -1,15 +1,12 @@
 -- Document 01, "Refusal numbers and places": why the calls refuse, and what they then leave.
 use Rattle.std.specs.Prelude.{ℕ, zero, suc, ◌+◌, ◌≤◌, ◌<◌, ◌≡◌, List, [], true, ◌⊎◌, length}
-use Rattle.families.proofs.Starred.{reads}
 use Rattle.families.specs.Tokens.{Tokens, fin, halt, more}
-use Rattle.findings.proofs.Shown.{finds}
 use Rattle.findings.specs.Findings.{findings_of, stored_findings}
 use Rattle.items.specs.declared.Form.{Form}
 use Rattle.laws.specs.Bools.{within}
 use Rattle.lexer.specs.Next.{read_at}
 use Rattle.listing.specs.Listing.{list_of, no_room, stored_of}
 use Rattle.outline.specs.Outline.{outline_of, outline_written}
-use Rattle.readers.specs.Scan.{full}
 use Rattle.readers.specs.declared.reading.Reading.{Reading}
 use Rattle.rows.specs.Rows.{row_place}
 use Rattle.source_test.specs.Source.{sound_to}

@@ -8,7 +8,6 @@ use lib.ListN.{length, length-set, set}
 use borrow.Author.Tests.{le-ltb, lt-ltb}
 use Rattle.families.proofs.Steps.{tokens_fin, tokens_halt, tokens_more, tokens_past, tokens_room, tokens_start}
 use Rattle.families.specs.Tokens.{Tokens, fin, halt, more, tokens_at}
-use Rattle.laws.specs.Bools.{same}
 use Rattle.lexer.specs.Next.{next_at}
 use Rattle.listing.specs.Listing.{list_answer, list_of, listed_words, no_room, stored_of}
 use Rattle.listing.specs.declared.Listed.{Listed}

@@ -1,4 +1,3 @@
-use Prim.Native.Nat.{◌-◌}
 use mathlib.Core.Path.{ap, ◌∙◌}
 use native.Mathlib.Omega.{arith}
 use Rattle.listing.proofs.Stores.{head_first, list_fin, list_halt, list_more, list_past, list_room, list_short, quick_more, quick_past, quick_room, quick_short}
