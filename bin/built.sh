@@ -6,7 +6,7 @@ kept=$root/target/tool
 sources() {
     (
         cd "$root" || exit
-        rt version
+        rt version </dev/null
         uname -m
         find crates.txt crates -name out -prune -o -type f -print0 | LC_ALL=C sort -z | xargs -0 sha256sum
     ) | sha256sum

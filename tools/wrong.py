@@ -3,8 +3,8 @@
 
 usage (run at the repository's root): tools/wrong.py NAME..
 
-They are written as those of crates/NAME/must-fail are. For each crate NAME, a copy of the repository's crates is made below target/wrong, in
-which its edits stand in must-fail/, and `rt must-fail` tries them there. What it says is printed, and its status is the exit status: an edit
+They are written as those of crates/NAME/must-fail are. For each crate NAME, a copy of the repository's crates is made in a folder outside the
+repository, in which its edits stand in must-fail/, and `rt must-fail` tries them there. What it says is printed, and its status is the exit status: an edit
 that is taken, or that cannot be applied, fails. What a proof file names and an edit takes away says little of a contract, and `rt` says so.
 """
 import glob
@@ -12,6 +12,7 @@ import os
 import shutil
 import subprocess
 import sys
+import tempfile
 
 
 def fail(text):
@@ -19,11 +20,8 @@ def fail(text):
     sys.exit(2)
 
 
-def main(names):
-    if not names or any(not os.path.isdir(f'crates/{name}/wrong') for name in names):
-        fail(__doc__)
-    room = 'target/wrong'
-    shutil.rmtree(f'{room}/crates', ignore_errors=True)
+def tried(names, room):
+    """The status of `rt must-fail` over a copy in the folder room."""
     shutil.copytree('crates', f'{room}/crates', ignore=shutil.ignore_patterns('out', 'must-fail', 'wrong'))
     shutil.copy('crates.txt', room)
     for name in names:
@@ -31,11 +29,18 @@ def main(names):
         for path in glob.glob(f'crates/{name}/wrong/*.edit'):
             shutil.copy(path, f'{room}/crates/{name}/must-fail')
     for name in names:
-        # What is proved of the crate as it stands is proved of the copy: that spares a check.
-        checked = subprocess.run(['rt', 'check'], cwd=f'{room}/crates/{name}')
-        if checked.returncode:
+        # What is proved of the crate as it stands is proved of the copy: that spares a check for each edit.
+        if subprocess.run(['rt', 'check'], cwd=f'{room}/crates/{name}').returncode:
             fail(f'tools/wrong.py: {name} is not proved as it stands')
-    sys.exit(subprocess.run(['rt', 'must-fail', *names], cwd=room).returncode)
+    return subprocess.run(['rt', 'must-fail', *names], cwd=room).returncode
+
+
+def main(names):
+    if not names or any(not os.path.isdir(f'crates/{name}/wrong') for name in names):
+        fail(__doc__)
+    with tempfile.TemporaryDirectory() as room:
+        status = tried(names, room)
+    sys.exit(status)
 
 
 main(sys.argv[1:])
