@@ -67,6 +67,8 @@ pub fn asked(rt: &impl Env) -> Chosen {
 }
 
 // What to write instead, on standard error.
-pub fn say_usage(err: Stderr, program: &str) {
-    let _ = println!(err; "usage: {program} [--comments crate|first]");
+pub fn say_usage(err: Stderr, program: &[u8]) {
+    let _ = Print::write_all(&err, b"usage: ");
+    let _ = Print::write_all(&err, program);
+    let _ = Print::write_all(&err, b" [--comments crate|first]\n");
 }

@@ -139,6 +139,33 @@ pub fn read_full<R: Read>(from: &mut R, into: &mut [u8]) -> usize
     at
 }
 
+// Whether descriptor 3 is open for writing. The second line that the system tells of it are its flags, in octal: its mode is what the last digit leaves
+// over 4, and 0 is for reading alone.
+fn is_written_to(rt: &impl Files) -> bool {
+    let mut told = [0u8; 64];
+    let Ok(mut file) = OpenOptions::new()
+        .read(true)
+        .open(rt, "/proc/self/fdinfo/3")
+    else {
+        return false;
+    };
+    let Filled::Bytes { count } = fill(&mut file, &mut told) else {
+        return false;
+    };
+    let mut last = 0;
+    let mut second = false;
+    for byte in &told[..count] {
+        if *byte == b'\n' {
+            if second {
+                return last % 4 != 0;
+            }
+            second = true;
+        }
+        last = *byte;
+    }
+    false
+}
+
 // Writes how the program ended to descriptor 3, as one digit. Where nobody opened it, nobody asks.
 pub fn leave(rt: &impl Files, status: u8) {
     let digit: u8 = match status {
@@ -146,7 +173,15 @@ pub fn leave(rt: &impl Files, status: u8) {
         1 => b'1',
         _ => b'2',
     };
-    if let Ok(mut file) = OpenOptions::new().append(true).open(rt, "/proc/self/fd/3") {
+    if !is_written_to(rt) {
+        return;
+    }
+    // A pipe whose reader has left is opened at once where it is opened for reading too.
+    if let Ok(mut file) = OpenOptions::new()
+        .read(true)
+        .append(true)
+        .open(rt, "/proc/self/fd/3")
+    {
         let _ = file.write_all(&[digit]);
     }
 }

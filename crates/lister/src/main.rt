@@ -51,7 +51,7 @@ fn main(rt: HostRuntime) {
         err: rt.stderr(),
     };
     let Chosen::OneReading { reading } = arguments::asked(&rt) else {
-        arguments::say_usage(streams.err, "lister");
+        arguments::say_usage(streams.err, b"lister");
         buffer::leave(&rt, 2);
         return;
     };

@@ -81,7 +81,7 @@ fn main(rt: HostRuntime) {
         err: rt.stderr(),
     };
     let Chosen::OneReading { reading } = arguments::asked(&rt) else {
-        arguments::say_usage(streams.err, "outliner");
+        arguments::say_usage(streams.err, b"outliner");
         buffer::leave(&rt, 2);
         return;
     };
