@@ -21,18 +21,24 @@ prove() {
     took=$(cat "$kept/$1.took" 2>/dev/null) && took="last time that took $took s" || took="that takes some minutes"
     echo "$tool: the program $1 is proved and built now; $took. This happens once, and again after a change" >&2
     before=$(sources)
-    # Whatever stands there may be another program.
-    rm -f "$program" "$program.stamp"
+    # rt looks at the sources alone: it would not see another program in its place.
+    if [ ! -x "$program" ] || [ "$before" = "$(head -n 1 "$kept/$1.state" 2>/dev/null)" ]; then
+        rm -f "$program" "$program.stamp"
+    fi
     began=$(date +%s)
-    # `rt run` ends with the program's own status, and runs it on nothing: so what was built is looked for.
-    (cd "$root/crates/$1" && rt run </dev/null 3>/dev/null) >"$kept/$1.log" 2>&1 || :
-    took=$(($(date +%s) - began))
-    [ -x "$program" ] || {
+    # It runs the program too, on nothing; a program ends with 0, whatever it says on descriptor 3.
+    (cd "$root/crates/$1" && rt run </dev/null 3>/dev/null) >"$kept/$1.log" 2>&1 || {
         tail -n 20 "$kept/$1.log" >&2
         fail "the program $1 is not built: the last lines of $kept/$1.log are above"
     }
-    echo "$tool: proved and built in $took s" >&2
-    echo $took >"$kept/$1.took"
+    took=$(($(date +%s) - began))
+    [ -x "$program" ] || fail "rt run made no $program: remove $root/crates/$1/out and try again"
+    if grep -q "^rt: nothing has changed" "$kept/$1.log"; then
+        echo "$tool: $1 was up to date" >&2
+    else
+        echo "$tool: proved and built in $took s" >&2
+        echo $took >"$kept/$1.took"
+    fi
     # What was changed meanwhile may be in the program or not.
     [ "$(sources)" != "$before" ] || { echo "$before" && sha256sum <"$program"; } >"$kept/$1.state"
 }

@@ -32,7 +32,7 @@ pub fn ill_formed() -> Fault
     Fault { number: 84 }
 }
 
-// Nobody reads any more, who is told nothing.
+// Nobody reads any more what is written.
 pub fn has_no_reader(fault: Fault) -> bool
     ensures { IsTrue result ↔ (fault.number ≡ pos 32) }
 {
@@ -53,8 +53,11 @@ fn end_of(text: &[u8], count: usize) -> usize
     end.saturating_sub(1)
 }
 
-// Writes a line to standard error: what failed, as the caller names it, and why.
+// Writes a line to standard error: what failed, as the caller names it, and why. That nobody reads any more is told nobody.
 pub fn tell(err: Stderr, what: &[u8], fault: Fault) {
+    if has_no_reader(fault) {
+        return;
+    }
     let mut text = Cursor::new([0u8; 320]);
     let _ = write!(text, "{}", io::Error::from_raw_os_error(fault.number));
     let count = text.position() as usize;

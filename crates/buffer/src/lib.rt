@@ -11,11 +11,19 @@ ghost use Rattle.buffer.specs.Fits.{Fits};
 
 use fault::{Fault, fault_of};
 use std::fs::OpenOptions;
-use std::io::{Read, Stdout, Write};
+use std::io::{Read, Stderr, Stdin, Stdout, Write};
 use std::rt::Files;
 
 // What waits after a write that failed: nothing is written any more.
 pub const LOST: usize = usize::MAX;
+
+// The streams of a program.
+#[derive(Clone, Copy, Drop)]
+pub struct Streams {
+    pub from: Stdin,
+    pub to: Stdout,
+    pub err: Stderr,
+}
 
 // Standard output, and why the write failed after which nothing is written any more.
 #[derive(Clone, Copy, Drop)]

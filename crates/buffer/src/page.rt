@@ -104,7 +104,7 @@ pub fn flush(page: Page) -> bool {
     crate::flush(&mut to, &bytes, page.waiting)
 }
 
-// Nobody reads any more what is written.
+// Its reader has left.
 pub fn is_left(page: &Page) -> bool
     ensures { IsTrue result ↔ (page.now.to.fault.number ≡ pos 32) }
 {

@@ -5,21 +5,13 @@ use crate::tally::{Tally, put_tally};
 use crate::{asked, tally};
 use buffer::fault::{Fault, fault_of, ill_formed};
 use buffer::page::{Page, put_bytes, put_decimal};
-use buffer::{Filled, fault, page};
+use buffer::{Filled, Streams, fault, page};
 use listing::Listed;
 use places::part;
 use std::fs::File;
-use std::io::{Stderr, Stdin, Stdout};
+use std::io::{Stderr, Stdin};
 use std::rt::{Env, Files};
 use std::str;
-
-// The streams of the program.
-#[derive(Clone, Copy, Drop)]
-pub(crate) struct Streams {
-    pub from: Stdin,
-    pub to: Stdout,
-    pub err: Stderr,
-}
 
 #[derive(Drop)]
 pub(crate) struct Run {

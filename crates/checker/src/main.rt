@@ -7,8 +7,7 @@ mod files;
 mod records;
 mod tally;
 
-use buffer::page;
-use files::Streams;
+use buffer::{Streams, page};
 use std::io::Stderr;
 use std::rt::{Env, Files};
 use tally::Tally;

@@ -1,23 +1,9 @@
 // Document 01's lister: the tokens of standard input, a line each, then what ended them. Comments end as in rune unless `--comments first` is asked.
 #![tactic(auto)]
 
-use buffer::fault::{Fault, has_no_reader, tell};
-use buffer::{Filled, output_to};
+use buffer::fault::tell;
+use buffer::{Filled, Streams, output_to};
 use readers::{Chosen, Reading};
-use std::io::{Stderr, Stdin, Stdout};
-
-// The streams that are written.
-#[derive(Clone, Copy, Drop)]
-struct Streams {
-    to: Stdout,
-    err: Stderr,
-}
-
-fn tell_unwritten(err: Stderr, fault: Fault) {
-    if !has_no_reader(fault) {
-        tell(err, b"lister: cannot write to standard output", fault);
-    }
-}
 
 // How the program ends, in the words of buffer::leave.
 fn list(streams: Streams, s: &[u8], reading: Reading) -> u8 {
@@ -25,16 +11,20 @@ fn list(streams: Streams, s: &[u8], reading: Reading) -> u8 {
     let mut out = [0u8; 65536];
     let printed = printing::list(&mut to, s, reading, &mut out, 0);
     if !buffer::flush(&mut to, &out, printed.waiting) {
-        tell_unwritten(streams.err, to.fault);
+        tell(
+            streams.err,
+            b"lister: cannot write to standard output",
+            to.fault,
+        );
         return 2;
     }
     if printed.refused { 1 } else { 0 }
 }
 
-fn read_and_list(from: Stdin, streams: Streams, reading: Reading) -> u8 {
+fn read_and_list(streams: Streams, reading: Reading) -> u8 {
     // One byte more than a source may have tells an over-long input.
     let mut source = [0u8; 65537];
-    let mut from = from;
+    let mut from = streams.from;
     let count = match buffer::fill(&mut from, &mut source) {
         Filled::Bytes { count } => count,
         Filled::Failed { fault } => {
@@ -47,6 +37,7 @@ fn read_and_list(from: Stdin, streams: Streams, reading: Reading) -> u8 {
 
 fn main(rt: HostRuntime) {
     let streams = Streams {
+        from: rt.stdin(),
         to: rt.stdout(),
         err: rt.stderr(),
     };
@@ -55,6 +46,6 @@ fn main(rt: HostRuntime) {
         buffer::leave(&rt, 2);
         return;
     };
-    let status = read_and_list(rt.stdin(), streams, reading);
+    let status = read_and_list(streams, reading);
     buffer::leave(&rt, status);
 }

@@ -2,11 +2,11 @@
 // `--comments first` is asked.
 #![tactic(auto)]
 
-use buffer::Filled;
-use buffer::fault::{Fault, fault_of, has_no_reader, tell};
+use buffer::fault::{fault_of, tell};
+use buffer::{Filled, Streams};
 use outline::Outlined;
 use readers::{Chosen, Reading};
-use std::io::{Stderr, Stdin, Stdout};
+use std::io::Stderr;
 use token::Refusal;
 
 fn say(err: Stderr, refusal: Refusal) {
@@ -16,24 +16,15 @@ fn say(err: Stderr, refusal: Refusal) {
     let _ = println!(err; "refused {number} {start} {end}");
 }
 
-// The streams that are written.
-#[derive(Clone, Copy, Drop)]
-struct Streams {
-    to: Stdout,
-    err: Stderr,
-}
-
-fn tell_unwritten(err: Stderr, fault: Fault) {
-    if !has_no_reader(fault) {
-        tell(err, b"outliner: cannot write to standard output", fault);
-    }
-}
-
 fn write(streams: Streams, outlined: &[u8]) -> bool {
     match Print::write_all(&streams.to, outlined) {
         Ok(()) => true,
         Err(error) => {
-            tell_unwritten(streams.err, fault_of(error));
+            tell(
+                streams.err,
+                b"outliner: cannot write to standard output",
+                fault_of(error),
+            );
             false
         }
     }
@@ -60,10 +51,10 @@ fn print(streams: Streams, s: &[u8], reading: Reading, out: &mut [u8]) -> u8 {
     }
 }
 
-fn read_and_print(from: Stdin, streams: Streams, reading: Reading) -> u8 {
+fn read_and_print(streams: Streams, reading: Reading) -> u8 {
     // One byte more than a source may have tells an over-long input.
     let mut source = [0u8; 65537];
-    let mut from = from;
+    let mut from = streams.from;
     let count = match buffer::fill(&mut from, &mut source) {
         Filled::Bytes { count } => count,
         Filled::Failed { fault } => {
@@ -77,6 +68,7 @@ fn read_and_print(from: Stdin, streams: Streams, reading: Reading) -> u8 {
 
 fn main(rt: HostRuntime) {
     let streams = Streams {
+        from: rt.stdin(),
         to: rt.stdout(),
         err: rt.stderr(),
     };
@@ -85,6 +77,6 @@ fn main(rt: HostRuntime) {
         buffer::leave(&rt, 2);
         return;
     };
-    let status = read_and_print(rt.stdin(), streams, reading);
+    let status = read_and_print(streams, reading);
     buffer::leave(&rt, status);
 }
