@@ -107,21 +107,59 @@ def groups(rows):
 
 # The program.
 
-def wording_function(rows, field):
-    texts = '\\n\\\n        '.join([getattr(row, field) for row in rows] + ['unknown'])
-    return (f'pub fn put_{field}(out: Page, number: u32) -> Page {{\n    put_label(\n        out,\n        b"{texts}",\n'
-            "        b'\\n',\n        row_of(number),\n    )\n}\n")
-
-
 def wordings(table):
-    rows = printed(table)
-    arms = ''.join(f'        {row.number} => {i},\n' for i, row in enumerate(rows))
-    out = ['// What the refusals of a source and the findings are called, mean and ask for; 160 and 161 are the findings 60 and 61 of a template.\n'
-           '// Written by tools/texts.py from texts.txt: change that table. Every function is safe and ends; what it puts no contract says.\n'
-           '#![tactic(auto)]\n\nuse buffer::page::{Page, put_label};\n',
-           '// The row of a number in the texts below.\n'
-           f'fn row_of(number: u32) -> usize {{\n    match number {{\n{arms}        _ => {len(rows)},\n    }}\n}}\n']
-    return '\n'.join(out + [wording_function(rows, field) for field in ('name', 'what', 'cure')])
+    rows = ''.join(f'''    Wording {{
+        number: {row.number},
+        name: "{row.name}",
+        what: "{row.what}",
+        cure: "{row.cure}",
+    }},
+''' for row in printed(table))
+    return f'''// What the refusals of a source and the findings are called, mean and ask for; 160 and 161 are the findings 60 and 61 of a template.
+// Written by tools/texts.py from texts.txt: change that table. Every function is safe and ends; what it puts no contract says.
+#![tactic(auto)]
+
+use buffer::Page;
+
+// By number, as the rows of texts.txt are.
+#[derive(Clone, Copy)]
+struct Wording {{
+    number: u32,
+    name: &'static str,
+    what: &'static str,
+    cure: &'static str,
+}}
+
+const UNKNOWN: Wording = Wording {{
+    number: 0,
+    name: "unknown",
+    what: "unknown",
+    cure: "unknown",
+}};
+
+const WORDINGS: [Wording; {len(printed(table))}] = [
+{rows}];
+
+fn row_of(number: u32) -> Wording {{
+    WORDINGS
+        .iter()
+        .find(|wording| wording.number == number)
+        .copied()
+        .unwrap_or(UNKNOWN)
+}}
+
+pub fn put_name(out: &mut Page, number: u32) {{
+    out.put_bytes(row_of(number).name.as_bytes());
+}}
+
+pub fn put_what(out: &mut Page, number: u32) {{
+    out.put_bytes(row_of(number).what.as_bytes());
+}}
+
+pub fn put_cure(out: &mut Page, number: u32) {{
+    out.put_bytes(row_of(number).cure.as_bytes());
+}}
+'''
 
 
 # The header.

@@ -5,76 +5,76 @@ mod form;
 mod reading;
 
 ghost use Rattle.std.specs.Prelude.{◌≡◌};
-ghost use Rattle.answers.specs.Told.{of_listed, of_outlined, of_read, of_refusal, of_stored, of_tested, of_unescaped, told_as};
+ghost use Rattle.answers.specs.Told.{of_counted, of_listed, of_read, of_refusal, of_tested, told_as};
+ghost use Rattle.token.specs.Reads.{reason_number};
 
-pub use form::{Named, form_of};
-use listing::Listed;
-use outline::Outlined;
+pub use form::form_of;
+use listing::Stopped;
 pub use reading::reading_of;
-use source_test::Tested;
-use storage::Stored;
-use token::{Read, Refusal};
-use unescape::Unescaped;
+use token::{Reason, Refusal, Token};
 
 // The number of a refusal, 0 where there is none; and value, count, start, end and the place reached.
-#[derive(Drop)]
+#[derive(Clone, Copy)]
 pub struct Told {
     pub number: u32,
     pub words: [usize; 5],
 }
 
-pub fn tell(told: Told, answer: &mut [usize; 5]) -> u32
-    ensures { (result ≡ told.number) × (answer.new ≡ told.words) }
-{
-    let words = told.words;
-    *answer = words;
-    told.number
-}
+impl Told {
+    // A refusal at a place, before anything is read.
+    pub fn point(reason: Reason, at: usize) -> Told
+        ensures { result ≡ told_as (reason_number reason) 0 0 at at at }
+    {
+        Told {
+            number: u32::from(reason),
+            words: [0, 0, at, at, at],
+        }
+    }
 
-fn counted(count: usize) -> Told
-    ensures { result ≡ told_as 0 0 count 0 0 0 }
-{
-    Told {
-        number: 0,
-        words: [0, count, 0, 0, 0],
+    pub fn tell(self, answer: &mut [usize; 5]) -> u32
+        ensures { (result ≡ self.number) × (answer.new ≡ self.words) }
+    {
+        let words = self.words;
+        *answer = words;
+        self.number
+    }
+
+    fn counted(count: usize) -> Told
+        ensures { result ≡ told_as 0 0 count 0 0 0 }
+    {
+        Told {
+            number: 0,
+            words: [0, count, 0, 0, 0],
+        }
+    }
+
+    fn of_refusal(count: usize, r: Refusal) -> Told
+        ensures { result ≡ of_refusal count r }
+    {
+        Told {
+            number: u32::from(r.reason),
+            words: [0, count, r.span.start, r.span.end, r.reached],
+        }
     }
 }
 
-fn of_refusal(count: usize, r: Refusal) -> Told
-    ensures { result ≡ of_refusal count r }
-{
-    Told {
-        number: r.number,
-        words: [0, count, r.span.start, r.span.end, r.reached],
+impl From<Result<(), Refusal>> for Told {
+    ghost from_gives = { λ answer told. told ≡ of_tested answer };
+
+    fn from(answer: Result<(), Refusal>) -> Told {
+        match answer {
+            Ok(()) => Told::counted(0),
+            Err(refusal) => Told::of_refusal(0, refusal),
+        }
     }
 }
 
-pub fn point(number: u32, at: usize) -> Told
-    ensures { result ≡ told_as number 0 0 at at at }
-{
-    Told {
-        number,
-        words: [0, 0, at, at, at],
-    }
-}
+impl From<Result<Token, Refusal>> for Told {
+    ghost from_gives = { λ answer told. told ≡ of_read answer };
 
-pub fn of_tested(answer: Tested) -> Told
-    ensures { result ≡ of_tested answer }
-{
-    match answer {
-        Tested::Sound => counted(0),
-        Tested::Unsound { refusal } => of_refusal(0, refusal),
-    }
-}
-
-pub fn of_read(answer: Read) -> Told
-    ensures { result ≡ of_read answer }
-{
-    match answer {
-        Read::Got { token } => {
-            let kind = token.kind;
-            let span = token.span;
-            Told {
+    fn from(answer: Result<Token, Refusal>) -> Told {
+        match answer {
+            Ok(Token { kind, span }) => Told {
                 number: 0,
                 words: [
                     numbers::number_of(kind) as usize,
@@ -83,44 +83,30 @@ pub fn of_read(answer: Read) -> Told
                     span.end,
                     span.end,
                 ],
-            }
+            },
+            Err(refusal) => Told::of_refusal(0, refusal),
         }
-        Read::Refused { refusal } => of_refusal(0, refusal),
     }
 }
 
-pub fn of_listed(answer: Listed) -> Told
-    ensures { result ≡ of_listed answer }
-{
-    match answer {
-        Listed::Whole { count } => counted(count),
-        Listed::Stopped { count, refusal } => of_refusal(count, refusal),
+impl From<Result<usize, Refusal>> for Told {
+    ghost from_gives = { λ answer told. told ≡ of_counted answer };
+
+    fn from(answer: Result<usize, Refusal>) -> Told {
+        match answer {
+            Ok(count) => Told::counted(count),
+            Err(refusal) => Told::of_refusal(0, refusal),
+        }
     }
 }
 
-pub fn of_outlined(answer: Outlined) -> Told
-    ensures { result ≡ of_outlined answer }
-{
-    match answer {
-        Outlined::Whole => counted(0),
-        Outlined::Stopped { refusal } => of_refusal(0, refusal),
-    }
-}
+impl From<Result<usize, Stopped>> for Told {
+    ghost from_gives = { λ answer told. told ≡ of_listed answer };
 
-pub fn of_unescaped(answer: Unescaped) -> Told
-    ensures { result ≡ of_unescaped answer }
-{
-    match answer {
-        Unescaped::Wrote { count } => counted(count),
-        Unescaped::Refused { refusal } => of_refusal(0, refusal),
-    }
-}
-
-pub fn of_stored(answer: Stored) -> Told
-    ensures { result ≡ of_stored answer }
-{
-    match answer {
-        Stored::Done { count } => counted(count),
-        Stored::Refused { refusal } => of_refusal(0, refusal),
+    fn from(answer: Result<usize, Stopped>) -> Told {
+        match answer {
+            Ok(count) => Told::counted(count),
+            Err(Stopped { count, refusal }) => Told::of_refusal(count, refusal),
+        }
     }
 }

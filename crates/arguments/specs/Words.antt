@@ -1,30 +1,13 @@
 -- The readings by the words that name them.
-use Rattle.std.specs.Prelude.{ℕ, List, [], ◌∷◌, Bool, true, false, eqb}
-use Rattle.laws.specs.Bools.{both, pick}
-use Rattle.readers.specs.declared.reading.Chosen.{Chosen}
-use Rattle.readers.specs.declared.reading.Chosen.TheVariants.{NoReading, OneReading}
+use Rattle.std.specs.Prelude.{None, Option, Some, ℕ, List, bytes_eq, codes}
+use Rattle.readers.specs.declared.reading.Reading.{Reading}
+use Rattle.laws.specs.Bools.{pick}
 use Rattle.readers.specs.declared.reading.Comments.{Comments}
 use Rattle.readers.specs.declared.reading.Comments.TheVariants.{Crate, First}
 
-unfoldable pub same_bytes : List ℕ → List ℕ → Bool
-same_bytes [] [] = true
-same_bytes [] (b ∷ t) = false
-same_bytes (a ∷ s) [] = false
-same_bytes (a ∷ s) (b ∷ t) = both (eqb a b) (same_bytes s t)
+abbrev pub chosen_of : Comments → Option Reading
+chosen_of c = Some (record { comments = c })
 
--- the bytes of `--comments`, `crate` and `first`
-abbrev pub comments_option : List ℕ
-comments_option = 45 ∷ 45 ∷ 99 ∷ 111 ∷ 109 ∷ 109 ∷ 101 ∷ 110 ∷ 116 ∷ 115 ∷ []
-
-abbrev pub crate_word : List ℕ
-crate_word = 99 ∷ 114 ∷ 97 ∷ 116 ∷ 101 ∷ []
-
-abbrev pub first_word : List ℕ
-first_word = 102 ∷ 105 ∷ 114 ∷ 115 ∷ 116 ∷ []
-
-abbrev pub chosen_of : Comments → Chosen
-chosen_of c = OneReading (record { comments = c })
-
-unfoldable pub reading_named : List ℕ → List ℕ → Chosen
+unfoldable pub reading_named : List ℕ → List ℕ → Option Reading
 reading_named option value =
-    pick (same_bytes option comments_option) (pick (same_bytes value crate_word) (chosen_of Crate) (pick (same_bytes value first_word) (chosen_of First) NoReading)) NoReading
+    pick (bytes_eq option (codes "--comments")) (pick (bytes_eq value (codes "crate")) (chosen_of Crate) (pick (bytes_eq value (codes "first")) (chosen_of First) None)) None

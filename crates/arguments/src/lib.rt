@@ -4,43 +4,41 @@
 ghost use Rattle.std.specs.Prelude.{◌≡◌, ◌≤◌, length};
 ghost use Rattle.arguments.specs.Words.{chosen_of, reading_named};
 
-use readers::{Chosen, Comments, Reading};
+use readers::{Comments, Reading};
 use std::env::FillError;
 use std::io::Stderr;
 use std::rt::Env;
 
-fn chosen(comments: Comments) -> Chosen
+fn chosen(comments: Comments) -> Option<Reading>
     ensures { result ≡ chosen_of comments }
 {
-    Chosen::OneReading {
-        reading: Reading { comments },
-    }
+    Some(Reading { comments })
 }
 
 // `--comments crate` or `--comments first`.
-pub fn reading_named(option: &[u8], value: &[u8]) -> Chosen
+#[tactic(auto, unfolding(crate::specs::Words::reading_named))]
+pub fn reading_named(option: &[u8], value: &[u8]) -> Option<Reading>
     ensures { result ≡ reading_named option.now value.now }
 {
-    if !check::same(option, b"--comments") {
-        return Chosen::NoReading;
+    if option != b"--comments".as_slice() {
+        return None;
     }
-    if check::same(value, b"crate") {
+    if value == b"crate".as_slice() {
         return chosen(Comments::Crate);
     }
-    if check::same(value, b"first") {
+    if value == b"first".as_slice() {
         return chosen(Comments::First);
     }
-    Chosen::NoReading
+    None
 }
 
 // How many words the program was started with, its name among them.
 pub fn count(rt: &impl Env) -> usize {
-    for i in 0..usize::MAX {
-        if let Err(FillError::NotPresent) = rt.arg(i, &mut []) {
-            return i;
-        }
-    }
-    usize::MAX
+    (0..usize::MAX)
+        .find(|i| rt
+            .arg(*i, &mut [])
+            .is_err_and(|error| error == FillError::NotPresent))
+        .unwrap_or(usize::MAX)
 }
 
 // Puts one of them at the front of the lent bytes; its length, or 0 where there is none or it does not fit.
@@ -51,19 +49,18 @@ pub fn word(rt: &impl Env, i: usize, into: &mut [u8]) -> usize
 }
 
 // rune's reading unless one is named. An argument that does not fit is as good as an empty one: it names nothing.
-pub fn asked(rt: &impl Env) -> Chosen {
-    let count = count(rt);
-    if count < 2 {
-        return chosen(Comments::Crate);
+pub fn asked(rt: &impl Env) -> Option<Reading> {
+    match count(rt) {
+        0 | 1 => chosen(Comments::Crate),
+        3 => {
+            let mut option = [0u8; 16];
+            let n = word(rt, 1, &mut option);
+            let mut value = [0u8; 16];
+            let m = word(rt, 2, &mut value);
+            reading_named(&option[..n], &value[..m])
+        }
+        _ => None,
     }
-    if count != 3 {
-        return Chosen::NoReading;
-    }
-    let mut option = [0u8; 16];
-    let n = word(rt, 1, &mut option);
-    let mut value = [0u8; 16];
-    let m = word(rt, 2, &mut value);
-    reading_named(&option[..n], &value[..m])
 }
 
 // What to write instead, on standard error.

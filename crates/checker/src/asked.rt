@@ -1,10 +1,10 @@
 // What the arguments ask for, one after the other: an option holds for the files after it.
 use places::part;
-use readers::{Chosen, Comments, Reading};
+use readers::{Comments, Reading};
 use std::io::Stderr;
 use std::rt::Env;
 
-#[derive(Clone, Copy, Drop)]
+#[derive(Clone, Copy, PartialEq, Eq, Drop)]
 pub(crate) enum Layout {
     Text,
     Json,
@@ -17,203 +17,105 @@ pub(crate) struct Settings {
     pub reading: Reading,
     pub layout: Layout,
     pub colour: bool,
-    pub expects: bool,
+    expects: bool,
 }
 
-#[derive(Drop)]
-enum Word {
-    Comments,
-    Text,
-    Json,
-    Quiet,
-    Colour,
-    Unknown,
+// What an argument is: a file's name, or a part of an option.
+#[derive(Clone, Copy, Drop)]
+pub(crate) enum Argument {
     File,
+    Setting,
 }
 
-// What an argument is: a file's name, so long; other settings; or nothing that is known.
-#[derive(Drop)]
-pub(crate) enum Step {
-    File { length: usize },
-    Set { settings: Settings },
-    Wrong,
+#[derive(Clone, Copy, Drop)]
+pub(crate) enum Wrong {
+    NoOption,
+    NoReading,
 }
 
-pub(crate) fn default_settings() -> Settings {
-    Settings {
-        reading: Reading {
-            comments: Comments::Crate,
-        },
-        layout: Layout::Text,
-        colour: false,
-        expects: false,
+impl Wrong {
+    fn tell(self, err: Stderr, word: &[u8]) {
+        match self {
+            Wrong::NoOption => tell(err, b"checker: there is no option "),
+            Wrong::NoReading => tell(
+                err,
+                b"checker: after --comments comes crate or first, and not ",
+            ),
+        }
+        tell(err, word);
+        tell(err, b"\n");
     }
 }
 
-fn set(reading: Reading, layout: Layout, colour: bool, expects: bool) -> Step {
-    Step::Set {
-        settings: Settings {
-            reading,
-            layout,
-            colour,
-            expects,
-        },
+impl Settings {
+    pub(crate) fn new() -> Settings {
+        Settings {
+            reading: Reading {
+                comments: Comments::Crate,
+            },
+            layout: Layout::Text,
+            colour: false,
+            expects: false,
+        }
+    }
+
+    fn take_reading(&mut self, word: &[u8]) -> Result<Argument, Wrong> {
+        let Some(reading) = arguments::reading_named(b"--comments", word) else {
+            return Err(Wrong::NoReading);
+        };
+        self.reading = reading;
+        self.expects = false;
+        Ok(Argument::Setting)
+    }
+
+    // A lone `-` is standard input.
+    pub(crate) fn take(&mut self, word: &[u8]) -> Result<Argument, Wrong> {
+        if self.expects {
+            return self.take_reading(word);
+        }
+        match word {
+            b"--comments" => self.expects = true,
+            b"--text" => self.layout = Layout::Text,
+            b"--json" => self.layout = Layout::Json,
+            b"--quiet" => self.layout = Layout::Quiet,
+            b"--colour" => self.colour = true,
+            [b'-', _, ..] => return Err(Wrong::NoOption),
+            _ => return Ok(Argument::File),
+        }
+        Ok(Argument::Setting)
     }
 }
 
-fn with_layout(settings: Settings, layout: Layout) -> Step {
-    let reading = settings.reading;
-    set(reading, layout, settings.colour, false)
-}
-
-fn with_colour(settings: Settings) -> Step {
-    let reading = settings.reading;
-    let layout = settings.layout;
-    set(reading, layout, true, false)
-}
-
-fn expecting(settings: Settings) -> Step {
-    let reading = settings.reading;
-    let layout = settings.layout;
-    set(reading, layout, settings.colour, true)
-}
-
-fn with_comments(settings: Settings, word: &[u8]) -> Step {
-    let Chosen::OneReading { reading } = arguments::reading_named(b"--comments", word) else {
-        return Step::Wrong;
-    };
-    let layout = settings.layout;
-    set(reading, layout, settings.colour, false)
-}
-
-// A lone `-` is standard input.
-fn is_option(word: &[u8]) -> bool {
-    if word.len() < 2 {
-        return false;
-    }
-    word[0] == b'-'
-}
-
-fn word_of(word: &[u8]) -> Word {
-    if check::same(word, b"--comments") {
-        return Word::Comments;
-    }
-    if check::same(word, b"--text") {
-        return Word::Text;
-    }
-    if check::same(word, b"--json") {
-        return Word::Json;
-    }
-    if check::same(word, b"--quiet") {
-        return Word::Quiet;
-    }
-    if check::same(word, b"--colour") {
-        return Word::Colour;
-    }
-    if is_option(word) {
-        return Word::Unknown;
-    }
-    Word::File
-}
-
-fn step_by(settings: Settings, word: &[u8]) -> Step {
-    if settings.expects {
-        return with_comments(settings, word);
-    }
-    match word_of(word) {
-        Word::Comments => expecting(settings),
-        Word::Text => with_layout(settings, Layout::Text),
-        Word::Json => with_layout(settings, Layout::Json),
-        Word::Quiet => with_layout(settings, Layout::Quiet),
-        Word::Colour => with_colour(settings),
-        Word::Unknown => Step::Wrong,
-        Word::File => Step::File { length: word.len() },
-    }
-}
-
-// The argument goes to name. One that does not fit there is as good as an empty one: it names no file.
-pub(crate) fn read_argument(rt: &impl Env, i: usize, settings: Settings, name: &mut [u8]) -> Step {
-    let length = arguments::word(rt, i, name);
-    step_by(settings, part(name, 0, length))
+// An argument that does not fit there is as good as an empty one: it names no file.
+pub(crate) fn read_argument<'a>(rt: &impl Env, i: usize, into: &'a mut [u8]) -> &'a [u8] {
+    let length = arguments::word(rt, i, into);
+    part(into, 0, length)
 }
 
 fn tell(err: Stderr, bytes: &[u8]) {
     let _ = err.write_all(bytes);
 }
 
-fn tell_wrong(err: Stderr, expects: bool, word: &[u8]) {
-    if expects {
-        tell(
-            err,
-            b"checker: after --comments comes crate or first, and not ",
-        );
-    } else {
-        tell(err, b"checker: there is no option ");
-    }
-    tell(err, word);
-    tell(err, b"\n");
-}
-
-fn tell_missing(err: Stderr) {
-    tell(err, b"checker: after --comments comes crate or first\n");
-}
-
-// What the arguments so far ask for, how many files they name, and whether one is wrong.
-#[derive(Drop)]
-struct Seen {
-    settings: Settings,
-    files: usize,
-    wrong: bool,
-}
-
-fn see(rt: &impl Env, err: Stderr, i: usize, seen: Seen, name: &mut [u8]) -> Seen {
-    let length = arguments::word(rt, i, name);
-    let word = part(name, 0, length);
-    let settings = seen.settings;
-    match step_by(settings, word) {
-        Step::File { length: _ } => Seen {
-            settings,
-            files: std::num::wrapping_add_usize(seen.files, 1),
-            wrong: false,
-        },
-        Step::Set { settings } => Seen {
-            settings,
-            files: seen.files,
-            wrong: false,
-        },
-        Step::Wrong => {
-            tell_wrong(err, settings.expects, word);
-            Seen {
-                settings,
-                files: 0,
-                wrong: true,
+// How many files are named; nothing where the arguments are wrong, which is told.
+pub(crate) fn count_files(rt: &impl Env, err: Stderr, into: &mut [u8]) -> Option<usize> {
+    let mut settings = Settings::new();
+    let mut files: usize = 0;
+    for i in 1..arguments::count(rt) {
+        let word = read_argument(rt, i, into);
+        match settings.take(word) {
+            Ok(Argument::File) => files = files.saturating_add(1),
+            Ok(Argument::Setting) => {}
+            Err(wrong) => {
+                wrong.tell(err, word);
+                return None;
             }
         }
     }
-}
-
-// How many files are named; 0 where the arguments are wrong, which is told.
-pub(crate) fn count_files(rt: &impl Env, err: Stderr, name: &mut [u8]) -> usize {
-    let count = arguments::count(rt);
-    let mut seen = Seen {
-        settings: default_settings(),
-        files: 0,
-        wrong: false,
-    };
-    let mut i: usize = 1;
-    while i < count {
-        seen = see(rt, err, i, seen, name);
-        if seen.wrong {
-            return 0;
-        }
-        i = i + 1;
+    if settings.expects {
+        tell(err, b"checker: after --comments comes crate or first\n");
+        return None;
     }
-    let last = seen.settings;
-    if last.expects {
-        tell_missing(err);
-        return 0;
-    }
-    seen.files
+    Some(files)
 }
 
 pub(crate) fn say_usage(err: Stderr) {

@@ -1,228 +1,142 @@
 // File by file: read it, find, tell, and sum up.
-use crate::asked::{Layout, Settings, Step};
-use crate::records::{Told, put_records, put_refusal};
-use crate::tally::{Tally, put_tally};
-use crate::{asked, tally};
-use buffer::fault::{Fault, fault_of, ill_formed};
-use buffer::page::{Page, put_bytes, put_decimal};
-use buffer::{Filled, Streams, fault, page};
-use listing::Listed;
-use places::part;
+ghost use Rattle.std.specs.Io.{ReadsAtMost};
+
+use crate::asked::{Argument, Layout, Settings, read_argument};
+use crate::records::Telling;
+use crate::tally::Tally;
+use buffer::{Page, Streams, fault};
+use listing::Stopped;
+use report::Source;
+use std::fmt::Write;
 use std::fs::File;
-use std::io::{Stderr, Stdin};
+use std::io::Stdin;
 use std::rt::{Env, Files};
-use std::str;
+use std::{io, str};
 
+// What a file's source and its findings are read into. One byte more than a source may have tells an over-long one.
 #[derive(Drop)]
-pub(crate) struct Run {
-    pub settings: Settings,
-    pub out: Page,
-    pub tally: Tally,
+pub(crate) struct Memory {
+    source: [u8; 65537],
+    store: [u32; 5000],
 }
 
-fn tell_unread(err: Stderr, file: &[u8], why: Fault) {
-    let _ = err.write_all(b"checker: cannot read ");
-    fault::tell(err, file, why);
-}
-
-// A file by its name.
-fn fill_named(rt: &impl Files, file: &[u8], source: &mut [u8]) -> Filled {
-    let Ok(name) = str::from_utf8(file) else {
-        return Filled::Failed {
-            fault: ill_formed(),
-        };
-    };
-    match File::open(rt, name) {
-        Ok(mut from) => buffer::fill(&mut from, source),
-        Err(error) => Filled::Failed {
-            fault: fault_of(error),
-        },
-    }
-}
-
-fn fill(rt: &impl Files, from: Stdin, file: &[u8], source: &mut [u8]) -> Filled {
-    if check::same(file, b"-") {
-        let mut from = from;
-        return buffer::fill(&mut from, source);
-    }
-    fill_named(rt, file, source)
-}
-
-fn read_file(rt: &impl Files, streams: Streams, file: &[u8], source: &mut [u8]) -> Filled {
-    let filled = fill(rt, streams.from, file, source);
-    if let Filled::Failed { fault } = &filled {
-        tell_unread(streams.err, file, *fault);
-    }
-    filled
-}
-
-fn put_found(
-    file: &[u8],
-    s: &[u8],
-    settings: Settings,
-    store: &mut [u32; 5000],
-    told: Told,
-) -> Told {
-    let reading = settings.reading;
-    match findings::findings(s, reading, store) {
-        Listed::Whole { count } => put_records(file, s, settings, store, count, told),
-        Listed::Stopped { count, refusal } => {
-            let found = put_records(file, s, settings, store, count, told);
-            put_refusal(file, s, settings, store, count, refusal, found)
+impl Memory {
+    pub(crate) fn new() -> Memory {
+        Memory {
+            source: [0; 65537],
+            store: [0; 5000],
         }
     }
 }
 
-// Where several files are named, those without a finding are passed over in silence.
-fn is_silent(layout: Layout, files: usize, tally: Tally) -> bool {
-    let Layout::Text = layout else {
-        return true;
-    };
-    if files < 2 {
-        return false;
-    }
-    tally::is_clean(tally)
-}
-
-fn put_file_line(out: Page, file: &[u8], layout: Layout, files: usize, tally: Tally) -> Page {
-    if is_silent(layout, files, tally) {
-        return out;
-    }
-    put_tally(put_bytes(put_bytes(out, file), b": "), tally)
-}
-
-fn check_source(file: &[u8], s: &[u8], store: &mut [u32; 5000], files: usize, run: Run) -> Run {
-    let settings = run.settings;
-    let out = run.out;
-    let begun = Told {
-        out,
-        tally: tally::nothing(),
-        place: places::origin(),
-    };
-    let told = put_found(file, s, settings, store, begun);
-    let found = told.tally;
-    let layout = settings.layout;
-    let out = put_file_line(told.out, file, layout, files, found);
-    Run {
-        settings,
-        out,
-        tally: tally::both(run.tally, found),
-    }
-}
-
-// What waits is written before a file is read, so that it stands before what is told of that file on standard error.
-fn flushed(run: Run) -> Run {
-    let settings = run.settings;
-    let tally = run.tally;
-    Run {
-        settings,
-        out: page::flushed(run.out),
-        tally,
-    }
-}
-
-fn unread(run: Run) -> Run {
-    let settings = run.settings;
-    let out = run.out;
-    Run {
-        settings,
-        out,
-        tally: tally::with_unread(run.tally),
-    }
-}
-
-fn check_file(
-    rt: &impl Files,
+// How many files are named, what holds for the next one, and what was told of those before it.
+#[derive(Drop)]
+pub(crate) struct Run {
     streams: Streams,
-    file: &[u8],
-    source: &mut [u8; 65537],
-    store: &mut [u32; 5000],
     files: usize,
-    run: Run,
-) -> Run {
-    let run = flushed(run);
-    if page::is_left(&run.out) {
-        return run;
-    }
-    let Filled::Bytes { count } = read_file(rt, streams, file, source) else {
-        return unread(run);
-    };
-    check_source(file, part(source, 0, count), store, files, run)
+    settings: Settings,
+    pub out: Page,
+    pub tally: Tally,
 }
 
-fn set(run: Run, settings: Settings) -> Run {
-    let out = run.out;
-    let tally = run.tally;
-    Run {
-        settings,
-        out,
-        tally,
+// A file by its name.
+fn read_named(rt: &impl Files, file: &[u8], source: &mut [u8]) -> io::Result<usize>
+    ensures { ReadsAtMost result source.new }
+{
+    let name = str::from_utf8(file).map_err(|_| fault::ill_formed())?;
+    let mut from = File::open(rt, name)?;
+    buffer::fill(&mut from, source)
+}
+
+fn read(rt: &impl Files, mut from: Stdin, file: &[u8], source: &mut [u8]) -> io::Result<usize>
+    ensures { ReadsAtMost result source.new }
+{
+    match file {
+        b"-" => buffer::fill(&mut from, source),
+        _ => read_named(rt, file, source),
     }
 }
 
-fn take_argument<R: Files + Env>(
-    rt: &R,
-    streams: Streams,
-    i: usize,
-    name: &mut [u8; 4096],
-    source: &mut [u8; 65537],
-    store: &mut [u32; 5000],
-    files: usize,
-    run: Run,
-) -> Run {
-    let settings = run.settings;
-    match asked::read_argument(rt, i, settings, name) {
-        Step::File { length } => check_file(
-            rt,
+impl Run {
+    pub(crate) fn new(streams: Streams, files: usize) -> Run {
+        Run {
             streams,
-            part(name, 0, length),
-            source,
-            store,
             files,
-            run,
-        ),
-        Step::Set { settings } => set(run, settings),
-        Step::Wrong => run,
+            settings: Settings::new(),
+            out: Page::new(streams.to),
+            tally: Tally::default(),
+        }
     }
-}
 
-fn put_last_line(files: usize, run: Run) -> Page {
-    let settings = run.settings;
-    let layout = settings.layout;
-    let Layout::Text = layout else {
-        return run.out;
-    };
-    if files < 2 {
-        return run.out;
+    // Where several files are named, those without a finding are passed over in silence.
+    fn put_file_line(&mut self, file: &[u8], found: Tally) {
+        if self.settings.layout == Layout::Text && (self.files < 2 || !found.is_clean()) {
+            self.out.put_bytes(file);
+            self.out.put_bytes(b": ");
+            found.put(&mut self.out);
+        }
     }
-    let out = put_decimal(run.out, files as u64);
-    put_tally(put_bytes(out, b" files: "), run.tally)
-}
 
-pub(crate) fn check_files<R: Files + Env>(
-    rt: &R,
-    streams: Streams,
-    files: usize,
-    name: &mut [u8; 4096],
-    source: &mut [u8; 65537],
-    store: &mut [u32; 5000],
-) -> Run {
-    let count = arguments::count(rt);
-    let mut run = Run {
-        settings: asked::default_settings(),
-        out: page::blank(streams.to),
-        tally: tally::nothing(),
-    };
-    let mut i: usize = 1;
-    while i < count {
-        run = take_argument(rt, streams, i, name, source, store, files, run);
-        i = i + 1;
+    fn check_source(&mut self, source: Source, store: &mut [u32; 5000]) {
+        let mut telling = Telling::new(source, self.settings);
+        let (count, refusal) = match findings::findings(source.bytes, source.reading, store) {
+            Ok(count) => (count, None),
+            Err(Stopped { count, refusal }) => (count, Some(refusal)),
+        };
+        let (records, _) = store.as_chunks::<5>();
+        let records = records.get(..count).unwrap_or(records);
+        telling.put_records(&mut self.out, records);
+        if let Some(refusal) = refusal {
+            telling.put_refusal(&mut self.out, records, refusal);
+        }
+        self.put_file_line(source.name, telling.tally);
+        self.tally += telling.tally;
     }
-    let settings = run.settings;
-    let tally = run.tally;
-    Run {
-        settings,
-        out: put_last_line(files, run),
-        tally,
+
+    // What waits is written before a file is read, so that it stands before what is told of that file on standard error.
+    fn check_file(&mut self, rt: &impl Files, file: &[u8], memory: &mut Memory) {
+        let _ = self.out.flush();
+        if self.out.is_left() {
+            return;
+        }
+        match read(rt, self.streams.from, file, &mut memory.source) {
+            Ok(count) => {
+                let source = Source {
+                    name: file,
+                    bytes: &memory.source[..count],
+                    reading: self.settings.reading,
+                };
+                self.check_source(source, &mut memory.store);
+            }
+            Err(error) => {
+                let _ = self.streams.err.write_all(b"checker: cannot read ");
+                fault::tell(self.streams.err, file, error);
+                self.tally.count_unread();
+            }
+        }
+    }
+
+    fn put_last_line(&mut self) {
+        if self.settings.layout == Layout::Text && 2 <= self.files {
+            let files = self.files;
+            let _ = write!(self.out, "{files} files: ");
+            self.tally.put(&mut self.out);
+        }
+    }
+
+    // The arguments were counted, and none is wrong.
+    pub(crate) fn check_files<R: Files + Env>(
+        &mut self,
+        rt: &R,
+        name: &mut [u8],
+        memory: &mut Memory,
+    ) {
+        for i in 1..arguments::count(rt) {
+            let word = read_argument(rt, i, name);
+            if let Ok(Argument::File) = self.settings.take(word) {
+                self.check_file(rt, word, memory);
+            }
+        }
+        self.put_last_line();
     }
 }

@@ -7,39 +7,34 @@ mod files;
 mod records;
 mod tally;
 
-use buffer::{Streams, page};
-use std::io::Stderr;
+use buffer::{Ending, Streams};
+use files::{Memory, Run};
 use std::rt::{Env, Files};
 use tally::Tally;
 
-fn status_of(tally: Tally, written: bool) -> u8 {
-    if !written {
-        return 2;
-    }
-    if 0 < tally.unread {
-        return 2;
-    }
-    if tally::is_clean(tally) { 0 } else { 1 }
-}
-
-fn tell_unwritten(err: Stderr, written: bool) {
-    if !written {
-        let _ = err.write_all(b"checker: cannot write to standard output\n");
+fn ending_of(tally: Tally) -> Ending {
+    if !tally.all_read() {
+        Ending::Failed
+    } else if tally.is_clean() {
+        Ending::Clean
+    } else {
+        Ending::Told
     }
 }
 
 // One who reads no more is told nothing.
-fn check_all<R: Files + Env>(rt: &R, streams: Streams, count: usize, name: &mut [u8; 4096]) {
-    // One byte more than a source may have tells an over-long one.
-    let mut source = [0u8; 65537];
-    let mut store = [0u32; 5000];
-    let run = files::check_files(rt, streams, count, name, &mut source, &mut store);
-    let tally = run.tally;
-    let out = page::flushed(run.out);
-    let left = page::is_left(&out);
-    let written = page::flush(out);
-    tell_unwritten(streams.err, written || left);
-    buffer::leave(rt, status_of(tally, written));
+fn check_all<R: Files + Env>(rt: &R, streams: Streams, files: usize, name: &mut [u8]) -> Ending {
+    let mut run = Run::new(streams, files);
+    run.check_files(rt, name, &mut Memory::new());
+    if run.out.flush().is_ok() {
+        return ending_of(run.tally);
+    }
+    if !run.out.is_left() {
+        let _ = streams
+            .err
+            .write_all(b"checker: cannot write to standard output\n");
+    }
+    Ending::Failed
 }
 
 fn main(rt: HostRuntime) {
@@ -49,11 +44,12 @@ fn main(rt: HostRuntime) {
         err: rt.stderr(),
     };
     let mut name = [0u8; 4096];
-    let count = asked::count_files(&rt, streams.err, &mut name);
-    if count == 0 {
-        asked::say_usage(streams.err);
-        buffer::leave(&rt, 2);
-        return;
-    }
-    check_all(&rt, streams, count, &mut name);
+    let ending = match asked::count_files(&rt, streams.err, &mut name) {
+        Some(files @ 1..) => check_all(&rt, streams, files, &mut name),
+        _ => {
+            asked::say_usage(streams.err);
+            Ending::Failed
+        }
+    };
+    buffer::leave(&rt, ending);
 }

@@ -1,4 +1,6 @@
 -- Which rule the code's tests choose, and cases on the rule chosen. Assumes nothing.
+use Rattle.std.specs.Prelude.{None, Option, Some}
+use Rattle.token.specs.declared.reason.Reason.TheVariants.{UnexpectedChar}
 use Prim.Native.Nat.{ℕ}
 use mathlib.Core.Path.{◌≡◌, refl, sym, ap, ◌∙◌, subst}
 use mathlib.Core.List.{List, [], ◌∷◌}
@@ -11,19 +13,17 @@ use Rattle.classes.specs.Digits.{is_digit}
 use Rattle.laws.proofs.Cases.{both_false, split}
 use Rattle.laws.specs.Bools.{both, pick}
 use Rattle.laws.specs.Tables.{in_ranges}
-use Rattle.operators.specs.Operators.{find_one, find_three, find_two, look_one, look_three, look_two, ones, operator_of, threes, twos}
+use Rattle.operators.specs.Operators.{find_one, find_three, find_two, look_one, look_three, look_two, ones, operator, operator_of, threes, twos}
 use Rattle.operators.specs.declared.Operator.{Operator}
-use Rattle.operators.specs.declared.Operator.TheVariants.{Found, Nothing}
 use Rattle.readers.specs.Numbers.{number_lit_of}
 use Rattle.readers.specs.Readers.{byte_of, char_of, comment_of, line_of, starts_word, str_of, white_of, word_of}
 use Rattle.readers.specs.Rules.{Rules, rules_of, rune, skip_of}
 use Rattle.readers.specs.declared.reading.Reading.{Reading}
 use Rattle.text.proofs.Decode.{Step}
 use Rattle.text.specs.Utf8.{rest, width}
-use Rattle.token.specs.Reads.{got_of, refused_of}
+use Rattle.token.specs.Reads.{got_of, refused_of, Read}
 use Rattle.token.specs.declared.kind.Kind.{Kind}
 use Rattle.token.specs.declared.kind.Kind.TheVariants.{Comment}
-use Rattle.token.specs.declared.read.Read.{Read}
 
 module _ (g : Reading) (t : Deep) (a : ℕ) (cs : List ℕ) (p v : ℕ) where
   pub first_white : is_white_space v ≡ true → white_of width a cs p ≡ first_of (rules_of g) t v a cs p
@@ -47,11 +47,11 @@ module _ (g : Reading) (t : Deep) (a : ℕ) (cs : List ℕ) (p v : ℕ) where
   unfolding other_of left_of
   other_any = refl
 
-  pub other_found : (k : Kind) (e : ℕ) → operator_of width v cs p ≡ Found k e → got_of k a e ≡ other_of (rules_of g) t v a cs p
+  pub other_found : (k : Kind) (e : ℕ) → operator_of width v cs p ≡ Some (operator k e) → got_of k a e ≡ other_of (rules_of g) t v a cs p
   unfolding other_of
   other_found k e h = rw h
 
-  pub other_left : operator_of width v cs p ≡ Nothing → left_of (rules_of g) t v a cs p ≡ other_of (rules_of g) t v a cs p
+  pub other_left : operator_of width v cs p ≡ None → left_of (rules_of g) t v a cs p ≡ other_of (rules_of g) t v a cs p
   unfolding other_of
   other_left h = rw h
 
@@ -75,7 +75,7 @@ module _ (g : Reading) (t : Deep) (a : ℕ) (cs : List ℕ) (p v : ℕ) where
         left_char h = rw (ne_eqb v 95 n, w, d, eq-eqb v 39 h, left_of)
 
 -- a backtick's rule is the last, so nothing else is asked of it
-pub left_none : (g : Reading) (a : ℕ) (cs : List ℕ) (p v : ℕ) → (v ≡ 95 → ⊥) → is_xid_start v ≡ false → is_digit v ≡ false → (v ≡ 39 → ⊥) → refused_of 18 a p p ≡ left_of (rules_of g) no_template v a cs p
+pub left_none : (g : Reading) (a : ℕ) (cs : List ℕ) (p v : ℕ) → (v ≡ 95 → ⊥) → is_xid_start v ≡ false → is_digit v ≡ false → (v ≡ 39 → ⊥) → refused_of UnexpectedChar a p p ≡ left_of (rules_of g) no_template v a cs p
 unfolding left_of
 left_none g a cs p v n w d c = rw (ne_eqb v 95 n, w, d, ne_eqb v 39 c, left_of) (split (eqb v 96) (λ e. rw e) (λ e. rw e))
 
@@ -142,8 +142,8 @@ module _ (R : Rules) (t : Deep) (v a : ℕ) (cs : List ℕ) (p : ℕ) (P : Read 
   pub first-cases :
       P (white_of R.stride a cs p) → (next_is 47 cs ≡ true → P (behind_one R (line_of R.stride Comment a) cs p)) → (next_is 42 cs ≡ true → P (behind_one R (comment_of R.stride R.skip a) cs p))
       → (next_is 39 cs ≡ true → P (behind_one R (byte_of R.stride a) cs p)) → (next_is 34 cs ≡ true → P (behind_one R (str_of R.stride true a) cs p)) → P (str_of R.stride false a cs p)
-      → ((k : Kind) (e : ℕ) → operator_of R.stride v cs p ≡ Found k e → P (got_of k a e)) → P (word_of R.stride R.continue v a cs p) → P (number_lit_of R.stride R.exponents v a cs p) → P (char_of R.stride a cs p) → P (t a cs p)
-      → P (refused_of 18 a p p) → P (first_of R t v a cs p)
+      → ((k : Kind) (e : ℕ) → operator_of R.stride v cs p ≡ Some (operator k e) → P (got_of k a e)) → P (word_of R.stride R.continue v a cs p) → P (number_lit_of R.stride R.exponents v a cs p) → P (char_of R.stride a cs p) → P (t a cs p)
+      → P (refused_of UnexpectedChar a p p) → P (first_of R t v a cs p)
   unfolding first_of other_of left_of
   first-cases white line comment byte bytes str op word number char deep none =
       pick_case (is_white_space v) white
@@ -159,6 +159,6 @@ module _ (R : Rules) (t : Deep) (v a : ℕ) (cs : List ℕ) (p : ℕ) (P : Read 
       two_case : (c d : ℕ) {x y : Read} → (next_is d cs ≡ true → P x) → P y → P (pick (both (eqb v c) (next_is d cs)) x y)
       two_case c d h k = split (next_is d cs) (λ e. pick_case (both (eqb v c) (next_is d cs)) (h e) k) (λ e. rw (e, both_false) k)
 
-      found_case : (o : Operator) {y : Read} → operator_of R.stride v cs p ≡ o → P y → P (found_or o a y)
-      found_case (Found k e) q h = op k e q
-      found_case Nothing q h = h
+      found_case : (o : Option Operator) {y : Read} → operator_of R.stride v cs p ≡ o → P y → P (found_or o a y)
+      found_case (Some o) q h = op o.kind o.end q
+      found_case None q h = h

@@ -1,18 +1,17 @@
 -- Document 01, "How one token is read": which rule reads a token, in the order of its tests.
-use Rattle.std.specs.Prelude.{ℕ, ◌+◌, List, [], ◌∷◌, Bool, true, false, eqb}
+use Rattle.token.specs.declared.reason.Reason.TheVariants.{UnexpectedChar}
+use Rattle.std.specs.Prelude.{ℕ, ◌+◌, List, [], ◌∷◌, Bool, true, false, eqb, Option, None, Some}
 use Rattle.classes.specs.Classes.{is_white_space}
 use Rattle.classes.specs.Digits.{is_digit}
 use Rattle.laws.specs.Bools.{both, pick}
 use Rattle.operators.specs.Operators.{operator_of}
 use Rattle.operators.specs.declared.Operator.{Operator}
-use Rattle.operators.specs.declared.Operator.TheVariants.{Found, Nothing}
 use Rattle.readers.specs.Numbers.{number_lit_of}
 use Rattle.readers.specs.Readers.{byte_of, char_of, comment_of, line_of, starts_word, str_of, white_of, word_of}
 use Rattle.readers.specs.Rules.{Rules}
 use Rattle.text.specs.Characters.{backtick, double_quote, letter_b, quote, slash, star}
-use Rattle.token.specs.Reads.{got_of, refused_of}
+use Rattle.token.specs.Reads.{got_of, refused_of, Read}
 use Rattle.token.specs.declared.kind.Kind.TheVariants.{Comment, Eof}
-use Rattle.token.specs.declared.read.Read.{Read}
 
 abbrev pub next_is : ℕ → List ℕ → Bool
 next_is c [] = false
@@ -23,9 +22,9 @@ abbrev pub behind_one : Rules → (List ℕ → ℕ → Read) → List ℕ → �
 behind_one R f [] p = f [] p
 behind_one R f (v ∷ cs) p = f cs (p + R.stride v)
 
-abbrev pub found_or : Operator → ℕ → Read → Read
-found_or (Found k e) a r = got_of k a e
-found_or Nothing a r = r
+abbrev pub found_or : Option Operator → ℕ → Read → Read
+found_or (Some o) a r = got_of o.kind a o.end
+found_or None a r = r
 
 -- how a template is read: where it starts, the scalars after its backtick, and their place
 abbrev pub Deep : Type 0
@@ -38,7 +37,7 @@ left_of R t v a cs p =
     (pick (is_digit v) (number_lit_of R.stride R.exponents v a cs p)
     (pick (eqb v quote) (char_of R.stride a cs p)
     (pick (eqb v backtick) (t a cs p)
-    (refused_of 18 a p p))))
+    (refused_of UnexpectedChar a p p))))
 
 -- operators come before these
 unfoldable pub other_of : Rules → Deep → ℕ → ℕ → List ℕ → ℕ → Read
@@ -57,7 +56,7 @@ first_of R t v a cs p =
 
 -- where no template is read, a backtick fits no rule
 abbrev pub no_template : Deep
-no_template a cs p = refused_of 18 a p p
+no_template a cs p = refused_of UnexpectedChar a p p
 
 -- at the end 67, a point
 unfoldable pub token_with : Rules → Deep → List ℕ → ℕ → Read

@@ -1,5 +1,5 @@
 -- Document 01's digits and hex digits, and what a hex digit stands for.
-use Rattle.std.specs.Prelude.{ℕ, ◌+◌, ◌-◌, Bool}
+use Rattle.std.specs.Prelude.{ℕ, ◌+◌, ◌-◌, Bool, Option, Some, None}
 use Rattle.laws.specs.Bools.{either, pick, within}
 
 -- a digit, 0-9
@@ -22,3 +22,7 @@ unfoldable pub hex_value : ℕ → ℕ
 hex_value v =
     pick (is_digit v) (v - 0x30)
     (pick (is_low_hex v) (v - 0x61 + 10) (pick (is_high_hex v) (v - 0x41 + 10) 0))
+
+-- .. and whether it is one
+unfoldable pub digit_of : ℕ → Option ℕ
+digit_of v = pick (is_hex_digit v) (Some (hex_value v)) None

@@ -1,4 +1,7 @@
 -- Any two results that a call's promise allows are equal: one law, and a line for each public call of a user's. Assumes nothing.
+use Rattle.std.specs.Prelude.{Option}
+use Rattle.token.specs.Reads.{Read}
+use Rattle.token.specs.Reads.{Tested}
 use Prim.Native.Nat.{ℕ}
 use mathlib.Core.Path.{◌≡◌}
 use mathlib.Core.List.{List}
@@ -7,26 +10,22 @@ use lib.Seq.{sets}
 use lib.ListN.{length}
 use Rattle.laws.proofs.Determined.{determined, determined_both}
 use Rattle.lexer.specs.Next.{next_at, past_start_at, read_at}
-use Rattle.listing.specs.Listing.{list_of, stored_of}
-use Rattle.listing.specs.declared.Listed.{Listed}
+use Rattle.listing.specs.Listing.{list_of, stored_of, Listed}
 use Rattle.outline.specs.Outline.{outline_of, outline_written}
-use Rattle.outline.specs.declared.Outlined.{Outlined}
 use Rattle.readers.specs.declared.reading.Reading.{Reading}
 use Rattle.source_test.specs.Source.{boundary, position_test, source_test}
-use Rattle.source_test.specs.declared.Tested.{Tested}
 use Rattle.text.specs.Utf8.{scalar_at, second_at}
 use Rattle.text.specs.declared.utf8.Scalar.{Scalar}
-use Rattle.token.specs.declared.read.Read.{Read}
 
 module _ (s : List ℕ) where
   pub test_source_determined : (r q : Tested) → r ≡ source_test s → q ≡ source_test s → r ≡ q
   test_source_determined r q h k = determined r q h k
 
   module _ (at : ℕ) where
-    pub scalar_at_determined : (r q : Scalar) → r ≡ scalar_at s at → q ≡ scalar_at s at → r ≡ q
+    pub scalar_at_determined : (r q : Option Scalar) → r ≡ scalar_at s at → q ≡ scalar_at s at → r ≡ q
     scalar_at_determined r q h k = determined r q h k
 
-    pub second_at_determined : (r q : Scalar) → r ≡ second_at s at → q ≡ second_at s at → r ≡ q
+    pub second_at_determined : (r q : Option Scalar) → r ≡ second_at s at → q ≡ second_at s at → r ≡ q
     second_at_determined r q h k = determined r q h k
 
     pub is_boundary_determined : (r q : Bool) → r ≡ boundary s at → q ≡ boundary s at → r ≡ q
@@ -49,6 +48,6 @@ module _ (s : List ℕ) where
         → (q ≡ list_of g s (length out)) × (w ≡ sets out 0 (stored_of g s (length out))) → (r ≡ q) × (v ≡ w)
     list_determined r q v w h k = determined_both r q v w h k
 
-    pub outline_determined : (r q : Outlined) (v w : List ℕ) → (r ≡ outline_of g s (length out)) × (v ≡ sets out 0 (outline_written g s (length out)))
+    pub outline_determined : (r q : Tested) (v w : List ℕ) → (r ≡ outline_of g s (length out)) × (v ≡ sets out 0 (outline_written g s (length out)))
         → (q ≡ outline_of g s (length out)) × (w ≡ sets out 0 (outline_written g s (length out))) → (r ≡ q) × (v ≡ w)
     outline_determined r q v w h k = determined_both r q v w h k

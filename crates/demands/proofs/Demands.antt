@@ -1,4 +1,6 @@
 -- The user's three demands, sentence by sentence, in every reading; every proof is a citation. Whoever trusts the checker reads this and the definitions that it names. Assumes nothing.
+use Rattle.std.specs.Prelude.{Err, Ok}
+use Rattle.token.specs.declared.reason.Reason.TheVariants.{IllFormed, NoPlace, NoRoom, TooLong}
 use Prim.Native.Nat.{ℕ, ◌+◌, ◌*◌, ◌≤◌, ◌<◌}
 use mathlib.Core.Path.{◌≡◌}
 use mathlib.Core.List.{List, [], ◌++◌, map}
@@ -6,6 +8,7 @@ use mathlib.Core.Bool.{Bool, true, false}
 use mathlib.Core.Logic.{inl, inr, ◌⊎◌, ⊎_elim}
 use lib.Seq.{sets}
 use lib.ListN.{drop, get_or, length, take}
+use Rattle.std.specs.Prelude.{Err}
 use Rattle.ahead.specs.View.{fresh_by}
 use Rattle.demands.proofs.Left.{left_again, left_answer, left_inside, left_length, left_lists, left_past}
 use Rattle.demands.proofs.Listed.{listing_accepted}
@@ -33,23 +36,21 @@ use Rattle.items.specs.declared.Form.{Form}
 use Rattle.laws.specs.Bools.{pick, within}
 use Rattle.lexer.specs.Next.{next_at, read_at}
 use Rattle.listing.proofs.Counted.{count_in, counted, three_words}
-use Rattle.listing.specs.Listing.{list_of, no_room, stored_of}
+use Rattle.listing.specs.Listing.{list_of, no_room, stored_of, listed_up_to}
 use Rattle.looks.specs.Buffer.{State}
 use Rattle.looks.specs.Sound.{sound_by}
 use Rattle.outline.specs.Outline.{inside_at, outline_of, outline_written, outlined}
 use Rattle.readers.specs.Rules.{Rules, first_close, rules_of, rune}
 use Rattle.readers.specs.declared.reading.Reading.{Reading}
 use Rattle.rows.specs.Rows.{list_check, list_rows, row_place}
-use Rattle.rows.specs.declared.Checked.TheVariants.{Good}
 use Rattle.source_test.specs.Source.{is_place, sound_to, source_test}
-use Rattle.source_test.specs.declared.Tested.TheVariants.{Sound}
 use Rattle.storage.proofs.StoreRound.{store_round, store_round_bytes}
 use Rattle.storage.specs.Reader.{bytes_check, list_words, read_by, read_of, stored_rows}
 use Rattle.storage.specs.Storage.{Below}
 use Rattle.storage.specs.Writer.{records_of, write_of, written_by}
 use Rattle.templates.specs.Body.{token_of}
 use Rattle.text.specs.Utf8.{decode, rest}
-use Rattle.token.specs.Reads.{point_refusal, refusal_in}
+use Rattle.token.specs.Reads.{point_refusal, refusal_number, number_in}
 use Rattle.token.specs.declared.kind.Kind.TheVariants.{MultilineComment}
 use Rattle.token.specs.declared.read.Refusal.{Refusal}
 use Rattle.token.specs.declared.read.Token.{Token}
@@ -58,26 +59,22 @@ use Rattle.unescape.proofs.Holds.{Bare, as_it_stands, as_long, no_longer, one_it
 use Rattle.unescape.specs.Bodies.{unescape_of, wrote}
 use Rattle.emitted.proofs.Refused.{refused_number, refused_same}
 use Rattle.emitted.specs.Sequence.{Call, IsFront, accepted, emitted, is_end, turn_of, without}
-use Rattle.listing.specs.declared.Listed.TheVariants.{Whole as AllListed, Stopped as ListedUpTo}
-use Rattle.outline.specs.declared.Outlined.TheVariants.{Stopped as OutlinedUpTo}
-use Rattle.unescape.specs.declared.body.Unescaped.TheVariants.{Wrote as IsWritten, Refused as NotWritten}
-use Rattle.rows.specs.declared.Stored.TheVariants.{Done as IsStored, Refused as NotStored}
-use Rattle.looks.specs.declared.look.Looked.TheVariants.{Refused as NotLooked}
+use Rattle.looks.specs.Answer.{number_of}
+use Rattle.looks.specs.declared.look.Stop.{Stop}
 use Rattle.storage.proofs.Refused.{read_refusal as load_refusal, read_no_room, read_nothing, write_no_room, write_nothing, write_refusal}
-use Rattle.token.specs.declared.read.Read.TheVariants.{Got, Refused}
 use Rattle.demands.proofs.Refused.{all_refuse, list_front, list_no_place, list_nothing, list_refusal, list_stored, outline_no_place, outline_nothing, outline_refusal, read_misplaced, read_refusal, test_ill, test_long, test_refuses}
 
 -- Demand 1. Every public call answers on every input and ends: Rattle proves that of every function, and no public one has a `requires`.
 
 -- What is over-long is refused with 1 at 0, what is ill-formed with 2 at its first bad sequence: by every call that takes a source, which then writes nothing.
-pub over_long : (s : List ℕ) → 65536 < length s → AllRefuse s (point_refusal 1 0)
-over_long s h = all_refuse s (point_refusal 1 0) (test_long s h)
+pub over_long : (s : List ℕ) → 65536 < length s → AllRefuse s (point_refusal TooLong 0)
+over_long s h = all_refuse s (point_refusal TooLong 0) (test_long s h)
 
-pub ill_formed_law : (s : List ℕ) → length s ≤ 65536 → (sound_to s ≡ length s → ⊥) → AllRefuse s (point_refusal 2 (sound_to s))
-ill_formed_law s h n = all_refuse s (point_refusal 2 (sound_to s)) (test_ill s h n)
+pub ill_formed_law : (s : List ℕ) → length s ≤ 65536 → (sound_to s ≡ length s → ⊥) → AllRefuse s (point_refusal IllFormed (sound_to s))
+ill_formed_law s h n = all_refuse s (point_refusal IllFormed (sound_to s)) (test_ill s h n)
 
 -- A position past the end or inside a scalar is refused with 4, a point there.
-pub misplaced : (g : Reading) (s : List ℕ) (at : ℕ) → source_test s ≡ Sound → is_place (rest s 0) 0 at ≡ false → read_at g s at ≡ Refused (point_refusal 4 at)
+pub misplaced : (g : Reading) (s : List ℕ) (at : ℕ) → source_test s ≡ Ok tt → is_place (rest s 0) 0 at ≡ false → read_at g s at ≡ Err (point_refusal NoPlace at)
 misplaced g s at h p = read_misplaced s g at h p
 
 -- What is too deep is refused with 19, from the top token's start to after the backtick that is one too many: every depth up to 64 is read, and none above.
@@ -88,81 +85,81 @@ pub too_deep_law : (g : Reading) (n : ℕ) → 64 ≤ n → answer_by g (nested 
 too_deep_law g n h = depth_refused g n h
 
 -- Where 19 is not answered, the bound plays no part: with any higher one the same is read.
-pub bound_plays_no_part : (R : Rules) (d e : ℕ) (cs : List ℕ) (p : ℕ) → ((refusal_in (token_of R d cs p)).number ≡ 19 → ⊥) → d ≤ e → token_of R e cs p ≡ token_of R d cs p
+pub bound_plays_no_part : (R : Rules) (d e : ℕ) (cs : List ℕ) (p : ℕ) → (refusal_number (token_of R d cs p) ≡ 19 → ⊥) → d ≤ e → token_of R e cs p ≡ token_of R d cs p
 bound_plays_no_part R d e cs p h l = deeper_same R d e cs p h l
 
 -- What does not fit is refused with 3. A listing names the token that found no place, and the tokens before it are stored: the front of what a store with more room gets;
-pub list_does_not_fit : (g : Reading) (s : List ℕ) (room : ℕ) → source_test s ≡ Sound → (n : ℕ) (k : Token) → IsToken (tokens_at (rules_of g) s 0) n k
-    → row_place n ≤ room → room < row_place (n + 1) → (list_of g s room ≡ ListedUpTo n (no_room k)) × (length (stored_of g s room) ≡ row_place n)
+pub list_does_not_fit : (g : Reading) (s : List ℕ) (room : ℕ) → source_test s ≡ Ok tt → (n : ℕ) (k : Token) → IsToken (tokens_at (rules_of g) s 0) n k
+    → row_place n ≤ room → room < row_place (n + 1) → (list_of g s room ≡ listed_up_to n (no_room k)) × (length (stored_of g s room) ≡ row_place n)
 list_does_not_fit g s room h n k i a b = (list_no_place g s room h n k i a b, list_stored g s room h n k i a b)
 
 pub stored_are_a_front : (g : Reading) (s : List ℕ) (room large : ℕ) → room ≤ large → stored_of g s room ≡ take (length (stored_of g s room)) (stored_of g s large)
 stored_are_a_front g s room large l = list_front g s room large l
 
 -- an outline, a written and a read list name 0, and write nothing (below).
-pub outline_does_not_fit : (g : Reading) (s : List ℕ) (room : ℕ) → source_test s ≡ Sound → room < length s → (outline_of g s room ≡ OutlinedUpTo (point_refusal 3 0)) × (outline_written g s room ≡ [])
+pub outline_does_not_fit : (g : Reading) (s : List ℕ) (room : ℕ) → source_test s ≡ Ok tt → room < length s → (outline_of g s room ≡ Err (point_refusal NoRoom 0)) × (outline_written g s room ≡ [])
 outline_does_not_fit g s room h l = outline_no_place g s room h l
 
-pub store_does_not_fit : (l : List ℕ) (room : ℕ) → list_check l ≡ Good → room < length (records_of (list_rows l)) → write_of l room ≡ NotStored (point_refusal 3 0)
+pub store_does_not_fit : (l : List ℕ) (room : ℕ) → list_check l ≡ Ok tt → room < length (records_of (list_rows l)) → write_of l room ≡ Err (point_refusal NoRoom 0)
 store_does_not_fit l room h k = write_no_room l room h k
 
-pub load_does_not_fit : (s : List ℕ) (room : ℕ) → bytes_check s ≡ Good → room < length (list_words (stored_rows s)) → read_of s room ≡ NotStored (point_refusal 3 0)
+pub load_does_not_fit : (s : List ℕ) (room : ℕ) → bytes_check s ≡ Ok tt → room < length (list_words (stored_rows s)) → read_of s room ≡ Err (point_refusal NoRoom 0)
 load_does_not_fit s room h k = read_no_room s room h k
 
 -- Nothing else is refused with these numbers: here is why each call refuses. `Numbered` says 10 to 18, or 19 with its span, of a token that was read.
 module _ (g : Reading) (s : List ℕ) where
-  pub why_read : (at : ℕ) (r : Refusal) → read_at g s at ≡ Refused r → Unread s r ⊎ (((is_place (rest s 0) 0 at ≡ false) × (r ≡ point_refusal 4 at)) ⊎ Numbered (rules_of g) at (rest s at) at r)
+  pub why_read : (at : ℕ) (r : Refusal) → read_at g s at ≡ Err r → Unread s r ⊎ (((is_place (rest s 0) 0 at ≡ false) × (r ≡ point_refusal NoPlace at)) ⊎ Numbered (rules_of g) at (rest s at) at r)
   why_read at r e = read_refusal s g at r e
 
-  pub why_list : (room n : ℕ) (r : Refusal) → list_of g s room ≡ ListedUpTo n r → Unread s r ⊎ (FoundNoPlace (tokens_at (rules_of g) s 0) room n r ⊎ InReading r)
+  pub why_list : (room n : ℕ) (r : Refusal) → list_of g s room ≡ listed_up_to n r → Unread s r ⊎ (FoundNoPlace (tokens_at (rules_of g) s 0) room n r ⊎ InReading r)
   why_list room n r e = list_refusal g s room n r e
 
-  pub why_outline : (room : ℕ) (r : Refusal) → outline_of g s room ≡ OutlinedUpTo r → Unread s r ⊎ (((room < length s) × (r ≡ point_refusal 3 0)) ⊎ InReading r)
+  pub why_outline : (room : ℕ) (r : Refusal) → outline_of g s room ≡ Err r → Unread s r ⊎ (((room < length s) × (r ≡ point_refusal NoRoom 0)) ⊎ InReading r)
   why_outline room r e = outline_refusal g s room r e
 
   -- Refusals other than 3 and 10 to 19 write nothing (`read` has nothing to write to, and 3 writes nothing to a buffer for an outline).
-  pub list_writes_nothing : (room n : ℕ) (r : Refusal) → list_of g s room ≡ ListedUpTo n r → (r.number ≡ 3 → ⊥) → (InReading r → ⊥) → stored_of g s room ≡ []
+  pub list_writes_nothing : (room n : ℕ) (r : Refusal) → list_of g s room ≡ listed_up_to n r → (number_in r ≡ 3 → ⊥) → (InReading r → ⊥) → stored_of g s room ≡ []
   list_writes_nothing room n r e three reading = list_nothing g s room n r e three reading
 
-  pub outline_writes_nothing : (room : ℕ) (r : Refusal) → outline_of g s room ≡ OutlinedUpTo r → (InReading r → ⊥) → outline_written g s room ≡ []
+  pub outline_writes_nothing : (room : ℕ) (r : Refusal) → outline_of g s room ≡ Err r → (InReading r → ⊥) → outline_written g s room ≡ []
   outline_writes_nothing room r e reading = outline_nothing g s room r e reading
 
 -- The other calls refuse with other numbers: a body with 20 to 27 beside 1 and 2, a stored list with 40 to 43 beside 3, the lookahead with 30 to 34. None of these writes.
-module _ (form : Form) (s : List ℕ) (room : ℕ) (r : Refusal) (e : (unescape_of form s room).answer ≡ NotWritten r) where
-  pub why_unescape : Unread s r ⊎ (within 20 27 r.number ≡ true)
+module _ (form : Form) (s : List ℕ) (room : ℕ) (r : Refusal) (e : (unescape_of form s room).answer ≡ Err r) where
+  pub why_unescape : Unread s r ⊎ (within 20 27 (number_in r) ≡ true)
   why_unescape = ⊎_elim (λ h. inl (test_refuses s r h)) (λ h. inr h) (unescape_refusal form s room r e)
 
   pub unescape_writes_nothing : (unescape_of form s room).bytes ≡ []
   unescape_writes_nothing = refused_nothing form s room r e
 
 module _ (l : List ℕ) (room : ℕ) (r : Refusal) where
-  pub why_store : write_of l room ≡ NotStored r → ((r ≡ point_refusal 3 0) × (room < length (records_of (list_rows l)))) ⊎ (within 40 43 r.number ≡ true)
+  pub why_store : write_of l room ≡ Err r → ((r ≡ point_refusal NoRoom 0) × (room < length (records_of (list_rows l)))) ⊎ (within 40 43 (number_in r) ≡ true)
   why_store e = write_refusal l room r e
 
-  pub why_load : read_of l room ≡ NotStored r → ((r ≡ point_refusal 3 0) × (room < length (list_words (stored_rows l)))) ⊎ (within 40 43 r.number ≡ true)
+  pub why_load : read_of l room ≡ Err r → ((r ≡ point_refusal NoRoom 0) × (room < length (list_words (stored_rows l)))) ⊎ (within 40 43 (number_in r) ≡ true)
   why_load e = load_refusal l room r e
 
-  pub store_writes_nothing : write_of l room ≡ NotStored r → written_by l room ≡ []
+  pub store_writes_nothing : write_of l room ≡ Err r → written_by l room ≡ []
   store_writes_nothing e = write_nothing l room r e
 
-  pub load_writes_nothing : read_of l room ≡ NotStored r → read_by l room ≡ []
+  pub load_writes_nothing : read_of l room ≡ Err r → read_by l room ≡ []
   load_writes_nothing e = read_nothing l room r e
 
-module _ (t : ℕ) (l : List ℕ) (call : Call) (st : State) (number : ℕ) (e : (turn_of t l call st).answer ≡ NotLooked number) where
-  pub why_look : within 30 34 number ≡ true
-  why_look = refused_number t l call st number e
+module _ (t : ℕ) (l : List ℕ) (call : Call) (st : State) (stop : Stop) (e : (turn_of t l call st).answer ≡ Err stop) where
+  pub why_look : within 30 34 (number_of stop) ≡ true
+  why_look = refused_number stop
 
   pub look_writes_nothing : ((turn_of t l call st).state ≡ st) × ((turn_of t l call st).written ≡ [])
-  look_writes_nothing = refused_same t l call st number e
+  look_writes_nothing = refused_same t l call st stop e
 
 -- Demand 2. Token lists, refusals, unescaped text and lookahead states equal the definitions: each call's promise says so, and any two results that it allows are equal.
 -- `determined` stands for each call in Calls.antt: here for the tests, reading, listing and the outline, and in source, storage, emitted, findings, puffsatchel, puffsatchel_bytes, puffsatchel_look; for escapes it is `unescape_determined`.
 -- The definitions are the ones wanted. Accepted spans cover the source with no gap, and no token is empty.
-pub tokens_cover : (g : Reading) (s : List ℕ) → source_test s ≡ Sound → Covers (tokens_at (rules_of g) s 0) 0 (length s)
+pub tokens_cover : (g : Reading) (s : List ℕ) → source_test s ≡ Ok tt → Covers (tokens_at (rules_of g) s 0) 0 (length s)
 tokens_cover g s h = covers g s h
 
 -- The count is the length of the defined list, and three words are stored for each token counted.
-pub count_is_length : (g : Reading) (s : List ℕ) (room : ℕ) → source_test s ≡ Sound → 3 * count_of (tokens_at (rules_of g) s 0) ≤ room → count_in (list_of g s room) ≡ count_of (tokens_at (rules_of g) s 0)
+pub count_is_length : (g : Reading) (s : List ℕ) (room : ℕ) → source_test s ≡ Ok tt → 3 * count_of (tokens_at (rules_of g) s 0) ≤ room → count_in (list_of g s room) ≡ count_of (tokens_at (rules_of g) s 0)
 count_is_length g s room h k = counted g s room h k
 
 pub three_words_each : (g : Reading) (s : List ℕ) (room : ℕ) → length (stored_of g s room) ≡ 3 * count_in (list_of g s room)
@@ -180,8 +177,8 @@ pub numbers_as_before : (g : Reading) (s : List ℕ) → none_signed (rest s 0) 
 numbers_as_before g s h = old_numbers g s 0 h
 
 -- Unescaped text, template and char bodies are well-formed; a char or a byte gives one item; and never more bytes come out than the body has.
-module _ (form : Form) (s : List ℕ) (room n : ℕ) (e : (unescape_of form s room).answer ≡ IsWritten n) where
-  pub text_well_formed : is_bytes form ≡ false → source_test (unescape_of form s room).bytes ≡ Sound
+module _ (form : Form) (s : List ℕ) (room n : ℕ) (e : (unescape_of form s room).answer ≡ Ok n) where
+  pub text_well_formed : is_bytes form ≡ false → source_test (unescape_of form s room).bytes ≡ Ok tt
   text_well_formed h = well_formed form s room n e h
 
   pub single_item : is_single form ≡ true → (x : ℕ) × ((unescape_of form s room).bytes ≡ item_bytes form x)
@@ -191,27 +188,27 @@ module _ (form : Form) (s : List ℕ) (room n : ℕ) (e : (unescape_of form s ro
   no_more_bytes = no_longer form s room n e
 
 -- A body without a backslash comes out as it went in, and only such a body has as many bytes as its output.
-pub bare_as_it_is : (form : Form) (s : List ℕ) (room : ℕ) → source_test s ≡ Sound → Bare form (decode s) → (is_single form ≡ true → length (decode s) ≡ 1) → length s ≤ room → unescape_of form s room ≡ wrote s
+pub bare_as_it_is : (form : Form) (s : List ℕ) (room : ℕ) → source_test s ≡ Ok tt → Bare form (decode s) → (is_single form ≡ true → length (decode s) ≡ 1) → length s ≤ room → unescape_of form s room ≡ wrote s
 bare_as_it_is form s room h b one l = as_it_stands form s room h b one l
 
-pub bare_alone : (form : Form) (s : List ℕ) (room n : ℕ) → (unescape_of form s room).answer ≡ IsWritten n → n ≡ length s → Bare form (decode s)
+pub bare_alone : (form : Form) (s : List ℕ) (room n : ℕ) → (unescape_of form s room).answer ≡ Ok n → n ≡ length s → Bare form (decode s)
 bare_alone form s room n e h = as_long form s room n e h
 
 -- An accepted body changes only the bytes of its output.
-pub only_its_output : (form : Form) (s out : List ℕ) (n : ℕ) → (unescape_of form s (length out)).answer ≡ IsWritten n
+pub only_its_output : (form : Form) (s out : List ℕ) (n : ℕ) → (unescape_of form s (length out)).answer ≡ Ok n
     → sets out 0 (unescape_of form s (length out)).bytes ≡ (unescape_of form s (length out)).bytes ++ drop n out
 only_its_output form s out n e = only_output form s out n e
 
 -- What the writer writes the reader gives back, and the other way round; what was listed can always be written.
-pub stored_comes_back : (l : List ℕ) (room room' count : ℕ) → Below 4294967296 l → write_of l room ≡ IsStored count → length l ≤ room'
-    → (read_of (written_by l room) room' ≡ IsStored (length l)) × (read_by (written_by l room) room' ≡ l)
+pub stored_comes_back : (l : List ℕ) (room room' count : ℕ) → Below 4294967296 l → write_of l room ≡ Ok count → length l ≤ room'
+    → (read_of (written_by l room) room' ≡ Ok (length l)) × (read_by (written_by l room) room' ≡ l)
 stored_comes_back l room room' count b e f = store_round l room room' count b e f
 
-pub loaded_goes_back : (s : List ℕ) (room room' count : ℕ) → Below 256 s → read_of s room ≡ IsStored count → length s ≤ room'
-    → (write_of (read_by s room) room' ≡ IsStored (length s)) × (written_by (read_by s room) room' ≡ s)
+pub loaded_goes_back : (s : List ℕ) (room room' count : ℕ) → Below 256 s → read_of s room ≡ Ok count → length s ≤ room'
+    → (write_of (read_by s room) room' ≡ Ok (length s)) × (written_by (read_by s room) room' ≡ s)
 loaded_goes_back s room room' count b e f = store_round_bytes s room room' count b e f
 
-pub listed_can_be_stored : (g : Reading) (s : List ℕ) (room : ℕ) → list_check (stored_of g s room) ≡ Good
+pub listed_can_be_stored : (g : Reading) (s : List ℕ) (room : ℕ) → list_check (stored_of g s room) ≡ Ok tt
 listed_can_be_stored g s room = listing_accepted g s room
 
 -- From a fresh state, after any calls, what the lookahead emitted, end-of-file aside, is a front part of the list; with white space dropped, that part without it.
@@ -226,7 +223,7 @@ pub tested_before : (l : List ℕ) (t : ℕ) (call : Call) (st : State) → Size
 tested_before l t call st z h = tested_same l t call st z h
 
 -- Demand 3. Of the call `outline`, for a source that passes the tests 1 and 2 and a buffer with room for it:
-module _ (g : Reading) (s out : List ℕ) (h : source_test s ≡ Sound) (l : length s ≤ length out) where
+module _ (g : Reading) (s out : List ℕ) (h : source_test s ≡ Ok tt) (l : length s ≤ length out) where
   -- the bytes that it leaves where the source's were
   abbrev shown : List ℕ
   shown = take (length s) (outline_left g s out)
@@ -250,21 +247,21 @@ module _ (g : Reading) (s out : List ℕ) (h : source_test s ≡ Sound) (l : len
   twice_nothing buf k = (left_again g s out h l buf k, left_answer g s out h l (length buf) k)
 
 -- Two sources with equal outlines list alike.
-pub equal_alike : (g : Reading) (s t : List ℕ) → source_test s ≡ Sound → source_test t ≡ Sound → outlined (rules_of g) s ≡ outlined (rules_of g) t → (room : ℕ)
+pub equal_alike : (g : Reading) (s t : List ℕ) → source_test s ≡ Ok tt → source_test t ≡ Ok tt → outlined (rules_of g) s ≡ outlined (rules_of g) t → (room : ℕ)
     → (list_of g s room ≡ list_of g t room) × (plain_words (stored_of g s room) ≡ plain_words (stored_of g t room))
 equal_alike g s t h k e room = (equal_lists g s t h k e room, equal_stores g s t h k e room)
 
 -- Document 02, A3: what rune reads as a comment is one where the first `*/` closes, from the same place on, and ends there no later.
-pub comment_ends_sooner : (s : List ℕ) (at : ℕ) (k : Token) (c : Bool) → next_at rune s at ≡ Got k → k.kind ≡ MultilineComment c → Sooner (next_at first_close s at) k
+pub comment_ends_sooner : (s : List ℕ) (at : ℕ) (k : Token) (c : Bool) → next_at rune s at ≡ Ok k → k.kind ≡ MultilineComment c → Sooner (next_at first_close s at) k
 comment_ends_sooner = first_ends_sooner
 
 -- A file may switch without a look where each closed comment of its list under the first close has two scalars or more before its `*/`,
 -- and no template holds a backslash: both readings list and outline it alike.
-pub switch_alike : (s : List ℕ) → source_test s ≡ Sound → switch_safe s (tokens_at (rules_of first_close) s 0) ≡ true → (room : ℕ)
+pub switch_alike : (s : List ℕ) → source_test s ≡ Ok tt → switch_safe s (tokens_at (rules_of first_close) s 0) ≡ true → (room : ℕ)
     → (list_of rune s room ≡ list_of first_close s room) × (stored_of rune s room ≡ stored_of first_close s room) × (length s ≤ room → outline_written rune s room ≡ outline_written first_close s room)
 switch_alike s h safe room = (switch_lists s h safe room, switch_stores s h safe room, switch_outlines s h safe room)
 
 -- Where the check finds nothing and answers no refusal, it makes no difference where comments end: with every room both readings list the same.
-pub nothing_found_alike : (g : Reading) (s : List ℕ) (room : ℕ) → findings_of g s room ≡ AllListed 0 → (n : ℕ)
+pub nothing_found_alike : (g : Reading) (s : List ℕ) (room : ℕ) → findings_of g s room ≡ Ok 0 → (n : ℕ)
     → (list_of g s n ≡ list_of (under_first g) s n) × (stored_of g s n ≡ stored_of (under_first g) s n)
 nothing_found_alike g s room e n = nothing_found g s room e n

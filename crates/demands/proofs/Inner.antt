@@ -1,4 +1,7 @@
 -- No token of a source has the number of the end, 67. Assumes nothing.
+use Rattle.std.specs.Prelude.{Err, None, Ok, Option, Some}
+use Rattle.token.specs.Reads.{Read}
+use Rattle.token.specs.Reads.{number_in}
 use Prim.Native.Nat.{ℕ, zero, suc, ◌+◌}
 use mathlib.Core.Path.{◌≡◌, refl, ap, subst}
 use mathlib.Core.List.{List, [], ◌∷◌}
@@ -13,9 +16,8 @@ use Rattle.laws.proofs.Cases.{both_inv, never, split}
 use Rattle.laws.specs.Bools.{both, pick}
 use Rattle.lexer.specs.Next.{close_span, is_shebang, next_of}
 use Rattle.numbers.specs.Kinds.{number_of}
-use Rattle.operators.proofs.Ends.{by_length}
-use Rattle.operators.specs.Operators.{find_one, find_three, find_two, found_at, look_one, look_three, look_two, ones, operator_of, threes, twos}
-use Rattle.operators.specs.declared.Operator.TheVariants.{Found}
+use Rattle.operators.proofs.Ends.{by_length, found_kind}
+use Rattle.operators.specs.Operators.{find_one, find_three, find_two, found_at, look_one, look_three, look_two, ones, operator, operator_of, threes, twos}
 use Rattle.readers.specs.Numbers.{number_lit_of}
 use Rattle.readers.specs.Readers.{Bytes, Chars, Quoted, backslashed, body, broken, byte_answer, byte_of, byte_step, char_answer, char_of, char_step, closed_by, comment_end, comment_of, comment_step, control, escape, fresh, letters, line_of, run, shut, skips, slashed, str_answer, str_of, str_step, text, white_of, word_of}
 use Rattle.readers.specs.Rules.{Rules, rules_of}
@@ -26,20 +28,16 @@ use Rattle.templates.specs.Body.{go_on, template_body, template_of, token_of}
 use Rattle.text.specs.Utf8.{rest}
 use Rattle.token.specs.declared.kind.Kind.{Kind}
 use Rattle.token.specs.declared.kind.Kind.TheVariants.{Comment, Ident, MultilineComment, Shebang, Underscore}
-use Rattle.token.specs.declared.kind.Known.{Known}
-use Rattle.token.specs.declared.kind.Known.TheVariants.{Is, Unknown}
-use Rattle.token.specs.declared.read.Read.{Read}
-use Rattle.token.specs.declared.read.Read.TheVariants.{Got, Refused}
 
 abbrev pub is_inner : Kind → Bool
 is_inner k = leb (number_of k) 66
 
 abbrev pub Inner : Read → Type 0
-Inner (Got k) = is_inner k.kind ≡ true
-Inner (Refused r) = Unit
+Inner (Ok k) = is_inner k.kind ≡ true
+Inner (Err r) = Unit
 
 -- the operators, by their tables
-pick_known : (b : Bool) (j k : Kind) (m : Known) → pick b (Is j) m ≡ Is k → is_inner j ≡ true → (m ≡ Is k → is_inner k ≡ true) → is_inner k ≡ true
+pick_known : (b : Bool) (j k : Kind) (m : Option Kind) → pick b (Some j) m ≡ Some k → is_inner j ≡ true → (m ≡ Some k → is_inner k ≡ true) → is_inner k ≡ true
 pick_known true j k m e h g = let z : j ≡ k = cc in subst (λ (x : Kind). is_inner x ≡ true) z h
 pick_known false j k m e h g = g e
 
@@ -55,48 +53,44 @@ all_three : List (ℕ × ℕ × ℕ × Kind) → Bool
 all_three [] = true
 all_three (r ∷ t) = both (is_inner r.3) (all_three t)
 
-look_one_law : (t : List (ℕ × Kind)) (a : ℕ) (k : Kind) → all_one t ≡ true → look_one t a ≡ Is k → is_inner k ≡ true
+look_one_law : (t : List (ℕ × Kind)) (a : ℕ) (k : Kind) → all_one t ≡ true → look_one t a ≡ Some k → is_inner k ≡ true
 unfolding look_one all_one
 look_one_law [] a k h e = never (cc)
 look_one_law (r ∷ t) a k h e =
     let b = both_inv (is_inner r.1) (all_one t) h in
     pick_known (eqb a r.0) r.1 k (look_one t a) e b.0 (look_one_law t a k b.1)
 
-look_two_law : (t : List (ℕ × ℕ × Kind)) (a c : ℕ) (k : Kind) → all_two t ≡ true → look_two t a c ≡ Is k → is_inner k ≡ true
+look_two_law : (t : List (ℕ × ℕ × Kind)) (a c : ℕ) (k : Kind) → all_two t ≡ true → look_two t a c ≡ Some k → is_inner k ≡ true
 unfolding look_two all_two
 look_two_law [] a c k h e = never (cc)
 look_two_law (r ∷ t) a c k h e =
     let b = both_inv (is_inner r.2) (all_two t) h in
     pick_known (both (eqb a r.0) (eqb c r.1)) r.2 k (look_two t a c) e b.0 (look_two_law t a c k b.1)
 
-look_three_law : (t : List (ℕ × ℕ × ℕ × Kind)) (a c d : ℕ) (k : Kind) → all_three t ≡ true → look_three t a c d ≡ Is k → is_inner k ≡ true
+look_three_law : (t : List (ℕ × ℕ × ℕ × Kind)) (a c d : ℕ) (k : Kind) → all_three t ≡ true → look_three t a c d ≡ Some k → is_inner k ≡ true
 unfolding look_three all_three
 look_three_law [] a c d k h e = never (cc)
 look_three_law (r ∷ t) a c d k h e =
     let b = both_inv (is_inner r.3) (all_three t) h in
     pick_known (both (eqb a r.0) (both (eqb c r.1) (eqb d r.2))) r.3 k (look_three t a c d) e b.0 (look_three_law t a c d k b.1)
 
-found_known : (m : Known) (q : ℕ) (k : Kind) (e : ℕ) → found_at m q ≡ Found k e → m ≡ Is k
-found_known (Is j) q k e h = let z : j ≡ k = cc in ap Is z
-found_known Unknown q k e h = never (cc)
-
-one_inner : (v p : ℕ) (k : Kind) (e : ℕ) → find_one v p ≡ Found k e → is_inner k ≡ true
+one_inner : (v p : ℕ) (k : Kind) (e : ℕ) → find_one v p ≡ Some (operator k e) → is_inner k ≡ true
 unfolding find_one ones number_of all_one
-one_inner v p k e h = look_one_law ones v k refl (found_known (look_one ones v) p k e h)
+one_inner v p k e h = look_one_law ones v k refl (found_kind (look_one ones v) p k e h)
 
 module _ (R : Rules) where
-  two_inner : (v : ℕ) (cs : List ℕ) (p : ℕ) (k : Kind) (e : ℕ) → find_two R.stride v cs p ≡ Found k e → is_inner k ≡ true
+  two_inner : (v : ℕ) (cs : List ℕ) (p : ℕ) (k : Kind) (e : ℕ) → find_two R.stride v cs p ≡ Some (operator k e) → is_inner k ≡ true
   unfolding find_two twos number_of all_two
   two_inner v [] p k e h = never (cc)
-  two_inner v (w ∷ cs) p k e h = look_two_law twos v w k refl (found_known (look_two twos v w) (p + R.stride w) k e h)
+  two_inner v (w ∷ cs) p k e h = look_two_law twos v w k refl (found_kind (look_two twos v w) (p + R.stride w) k e h)
 
-  three_inner : (v : ℕ) (cs : List ℕ) (p : ℕ) (k : Kind) (e : ℕ) → find_three R.stride v cs p ≡ Found k e → is_inner k ≡ true
+  three_inner : (v : ℕ) (cs : List ℕ) (p : ℕ) (k : Kind) (e : ℕ) → find_three R.stride v cs p ≡ Some (operator k e) → is_inner k ≡ true
   unfolding find_three threes number_of all_three
   three_inner v [] p k e h = never (cc)
   three_inner v (w ∷ []) p k e h = never (cc)
-  three_inner v (w ∷ (x ∷ cs)) p k e h = look_three_law threes v w x k refl (found_known (look_three threes v w x) (p + R.stride w + R.stride x) k e h)
+  three_inner v (w ∷ (x ∷ cs)) p k e h = look_three_law threes v w x k refl (found_kind (look_three threes v w x) (p + R.stride w + R.stride x) k e h)
 
-  operator_inner : (v : ℕ) (cs : List ℕ) (p : ℕ) (k : Kind) (e : ℕ) → operator_of R.stride v cs p ≡ Found k e → is_inner k ≡ true
+  operator_inner : (v : ℕ) (cs : List ℕ) (p : ℕ) (k : Kind) (e : ℕ) → operator_of R.stride v cs p ≡ Some (operator k e) → is_inner k ≡ true
   unfolding operator_of
   operator_inner v cs p k e h = by_length R (find_three R.stride v cs p) (find_two R.stride v cs p) (find_one v p) k e h (three_inner v cs p k e) (two_inner v cs p k e) (one_inner v p k e)
 
@@ -160,8 +154,8 @@ module _ (R : Rules) where
       (let o = scan char_step R.stride (letters true false) p cs p in char_inner a o.state o.last o.place) (d a cs p) tt
 
   on_inner : (a : ℕ) (r : Read) (go : ℕ → Read) → ((t : ℕ) → Inner (go t)) → Inner (go_on a r go)
-  on_inner a (Got k) go g = g k.span.end
-  on_inner a (Refused r) go g = split (eqb r.number 19) (λ e. rw (e, Inner) tt) (λ e. rw (e, Inner) (g r.reached))
+  on_inner a (Ok k) go g = g k.span.end
+  on_inner a (Err r) go g = split (eqb (number_in r) 19) (λ e. rw (e, Inner) tt) (λ e. rw (e, Inner) (g r.reached))
 
   module _ (next : List ℕ → ℕ → Read) (a : ℕ) where
     body_inner : (t : ℕ) (cs : List ℕ) (p l : ℕ) → Inner (template_body R next a t cs p l)
@@ -182,8 +176,8 @@ module _ (R : Rules) where
   token_inner d v cs p = rw (with_deep R d (v ∷ cs) p) (first_inner (deep_of R d) (deep_inner d) v p cs (p + R.stride v))
 
   close_inner : (n : ℕ) (r : Read) → Inner r → Inner (close_span n r)
-  close_inner n (Got k) h = h
-  close_inner n (Refused r) h = split (eqb r.number 12) (λ e. rw e tt) (λ e. rw e tt)
+  close_inner n (Ok k) h = h
+  close_inner n (Err r) h = split (eqb (number_in r) 12) (λ e. rw e tt) (λ e. rw e tt)
 
   next_inner : (n v : ℕ) (cs : List ℕ) (p : ℕ) → Inner (next_of R n (v ∷ cs) p)
   unfolding next_of line_of number_of
@@ -200,8 +194,8 @@ AllInner (more k ts) = (is_inner k.kind ≡ true) × AllInner ts
 
 each_inner : (r : Read) (go : ℕ → Tokens) → Inner r → ((t : ℕ) → AllInner (go t)) → AllInner (each_of r go)
 unfolding AllInner
-each_inner (Got k) go h g = (h, g k.span.end)
-each_inner (Refused r) go h g = tt
+each_inner (Ok k) go h g = (h, g k.span.end)
+each_inner (Err r) go h g = tt
 
 tokens_inner : (R : Rules) (n t : ℕ) (cs : List ℕ) (p : ℕ) → AllInner (tokens_of R n t cs p)
 unfolding tokens_of AllInner

@@ -1,4 +1,5 @@
 -- The call `outline`, by what it leaves in its buffer: a source that passes the tests, and a buffer that is as long or longer. Assumes nothing.
+use Rattle.std.specs.Prelude.{Ok}
 use Prim.Native.Nat.{ℕ, ◌+◌, ◌-◌, ◌≤◌, ◌<◌}
 use mathlib.Core.Path.{◌≡◌, sym, ap, ◌∙◌, subst}
 use mathlib.Core.List.{List, ◌++◌}
@@ -16,10 +17,9 @@ use Rattle.outline.specs.Outline.{inside_at, outline_of, outline_written, outlin
 use Rattle.readers.specs.Rules.{rules_of}
 use Rattle.readers.specs.declared.reading.Reading.{Reading}
 use Rattle.source_test.specs.Source.{source_test}
-use Rattle.source_test.specs.declared.Tested.TheVariants.{Sound}
 use Rattle.text.specs.Characters.{letter_x}
 
-module _ (g : Reading) (s out : List ℕ) (h : source_test s ≡ Sound) (l : length s ≤ length out) where
+module _ (g : Reading) (s out : List ℕ) (h : source_test s ≡ Ok tt) (l : length s ≤ length out) where
   whole : length (outlined (rules_of g) s) ≡ length s
   whole = outline_length (rules_of g) s
 

@@ -1,4 +1,6 @@
 -- What was listed can always be written, whatever the source and the store. Assumes nothing.
+use Rattle.std.specs.Prelude.{Err, Ok}
+use Rattle.token.specs.Reads.{Tested}
 use Prim.Native.Nat.{ℕ, ◌*◌, ◌/◌, ◌≤◌}
 use mathlib.Core.Path.{◌≡◌, refl, sym, subst}
 use mathlib.Core.List.{List}
@@ -11,20 +13,17 @@ use Rattle.listing.proofs.Stores.{by_test}
 use Rattle.listing.specs.Listing.{stored_of}
 use Rattle.readers.specs.Rules.{rules_of}
 use Rattle.readers.specs.declared.reading.Reading.{Reading}
-use Rattle.rows.specs.declared.Stored.TheVariants.{Done}
 use Rattle.source_test.specs.Source.{source_test}
-use Rattle.source_test.specs.declared.Tested.{Tested}
-use Rattle.source_test.specs.declared.Tested.TheVariants.{Sound, Unsound}
 use Rattle.storage.specs.Writer.{write_of}
 
 accepted_by : (g : Reading) (s : List ℕ) (room : ℕ) (t : Tested) → t ≡ source_test s → Accepted (stored_of g s room)
-accepted_by g s room Sound e = subst Accepted (sym (by_test g s room Sound e).1) (words_accepted (tokens_at (rules_of g) s 0) (length s) room (covers g s (sym e)) (all_inner g s 0))
-accepted_by g s room (Unsound r) e = subst Accepted (sym (by_test g s room (Unsound r) e).1) none_accepted
+accepted_by g s room (Ok tt) e = subst Accepted (sym (by_test g s room (Ok tt) e).1) (words_accepted (tokens_at (rules_of g) s 0) (length s) room (covers g s (sym e)) (all_inner g s 0))
+accepted_by g s room (Err r) e = subst Accepted (sym (by_test g s room (Err r) e).1) none_accepted
 
 -- the words that listing stores are accepted by the writer
 pub listing_accepted : (g : Reading) (s : List ℕ) (room : ℕ) → Accepted (stored_of g s room)
 listing_accepted g s room = accepted_by g s room (source_test s) refl
 
 -- and written where there is room for them
-pub listing_written : (g : Reading) (s : List ℕ) (room room' : ℕ) → length (stored_of g s room) / 3 * 11 ≤ room' → write_of (stored_of g s room) room' ≡ Done (length (stored_of g s room) / 3 * 11)
+pub listing_written : (g : Reading) (s : List ℕ) (room room' : ℕ) → length (stored_of g s room) / 3 * 11 ≤ room' → write_of (stored_of g s room) room' ≡ Ok (length (stored_of g s room) / 3 * 11)
 listing_written g s room room' f = accepted_written (stored_of g s room) room' (listing_accepted g s room) f

@@ -1,4 +1,5 @@
 -- Demand 3 for the calls: source and outline list alike with equal room, and so do sources with equal outlines. Assumes nothing.
+use Rattle.std.specs.Prelude.{Ok}
 use Prim.Native.Nat.{ℕ, suc, ◌+◌, ◌-◌, ◌≤◌}
 use mathlib.Core.Path.{◌≡◌, refl, sym, ap, ◌∙◌}
 use mathlib.Core.List.{List, ◌∷◌}
@@ -22,7 +23,6 @@ use Rattle.readers.specs.Rules.{Rules, first_close, rules_of, rune}
 use Rattle.readers.specs.declared.reading.Reading.{Reading}
 use Rattle.source_test.proofs.Places.{sound_inv}
 use Rattle.source_test.specs.Source.{sound_to, source_test}
-use Rattle.source_test.specs.declared.Tested.TheVariants.{Sound}
 use Rattle.text.specs.Utf8.{width}
 
 -- the listing of tokens without the escape mark
@@ -53,14 +53,14 @@ shade_answer fin = refl
 shade_answer (halt r) = refl
 shade_answer (more k ts) = shade_answer ts
 
-test_sound : (s : List ℕ) → length s ≤ 65536 → sound_to s ≡ length s → source_test s ≡ Sound
+test_sound : (s : List ℕ) → length s ≤ 65536 → sound_to s ≡ length s → source_test s ≡ Ok tt
 unfolding source_test
 test_sound s l h = rw (le-ltb 65536 (length s) l, eq-eqb (sound_to s) (length s) h)
 
 -- over all rules in bytes: the tests, and the listing of the tokens
 module _ (R : Rules) (bytes : R.stride ≡ width) (sane : Sane R) where
-  module _ (s : List ℕ) (h : source_test s ≡ Sound) where
-    pub outline_test : source_test (outlined R s) ≡ Sound
+  module _ (s : List ℕ) (h : source_test s ≡ Ok tt) where
+    pub outline_test : source_test (outlined R s) ≡ Ok tt
     outline_test =
         let i = sound_inv s h in
         let l : length (outlined R s) ≤ 65536 = let z = i.0 in let y = outline_length R s in omega arith in
@@ -82,7 +82,7 @@ module _ (R : Rules) (bytes : R.stride ≡ width) (sane : Sane R) where
     pub outline_stops : outline_answer (tokens_at R (outlined R s) 0) ≡ outline_answer (tokens_at R s 0)
     outline_stops = ap outline_answer tokens ∙ shade_answer (tokens_at R s 0)
 
-  module _ (s t : List ℕ) (h : source_test s ≡ Sound) (k : source_test t ≡ Sound) (e : outlined R s ≡ outlined R t) (room : ℕ) where
+  module _ (s t : List ℕ) (h : source_test s ≡ Ok tt) (k : source_test t ≡ Ok tt) (e : outlined R s ≡ outlined R t) (room : ℕ) where
     pub equal_words : plain_words (listed_words (tokens_at R s 0) room) ≡ plain_words (listed_words (tokens_at R t 0) room)
     equal_words = sym (outline_words s h room) ∙ ap (λ (l : List ℕ). listed_words (tokens_at R l 0) room) e ∙ outline_words t k room
 
@@ -90,7 +90,7 @@ module _ (R : Rules) (bytes : R.stride ≡ width) (sane : Sane R) where
     equal_answer = sym (outline_answer_law s h room) ∙ ap (λ (l : List ℕ). list_answer (tokens_at R l 0) room 0) e ∙ outline_answer_law t k room
 
 -- what the calls answer and store for a source that passes the tests
-module _ (g : Reading) (s : List ℕ) (h : source_test s ≡ Sound) (room : ℕ) where
+module _ (g : Reading) (s : List ℕ) (h : source_test s ≡ Ok tt) (room : ℕ) where
   list_sound : list_of g s room ≡ list_answer (tokens_at (rules_of g) s 0) room 0
   unfolding list_of
   list_sound = rw (h, list_of)
@@ -107,8 +107,8 @@ module _ (g : Reading) (s : List ℕ) (h : source_test s ≡ Sound) (room : ℕ)
   unfolding outline_of
   outlined_sound l = rw (h, outline_of) (rw (le-ltb room (length s) l))
 
-module _ (g : Reading) (s : List ℕ) (h : source_test s ≡ Sound) (room : ℕ) where
-  test : source_test (outlined (rules_of g) s) ≡ Sound
+module _ (g : Reading) (s : List ℕ) (h : source_test s ≡ Ok tt) (room : ℕ) where
+  test : source_test (outlined (rules_of g) s) ≡ Ok tt
   test = outline_test (rules_of g) refl (reading_sane g) s h
 
   -- the same refusal and the same count
@@ -132,7 +132,7 @@ module _ (g : Reading) (s : List ℕ) (h : source_test s ≡ Sound) (room : ℕ)
       ap (λ (t : List ℕ). outline_of g t room) (written_sound g s h room l)
       ∙ outlined_sound g (outlined (rules_of g) s) test room fits ∙ outline_stops (rules_of g) refl (reading_sane g) s h ∙ sym (outlined_sound g s h room l)
 
-module _ (g : Reading) (s t : List ℕ) (h : source_test s ≡ Sound) (k : source_test t ≡ Sound) (e : outlined (rules_of g) s ≡ outlined (rules_of g) t) (room : ℕ) where
+module _ (g : Reading) (s t : List ℕ) (h : source_test s ≡ Ok tt) (k : source_test t ≡ Ok tt) (e : outlined (rules_of g) s ≡ outlined (rules_of g) t) (room : ℕ) where
   pub equal_lists : list_of g s room ≡ list_of g t room
   equal_lists = list_sound g s h room ∙ equal_answer (rules_of g) refl (reading_sane g) s t h k e room ∙ sym (list_sound g t k room)
 
@@ -140,7 +140,7 @@ module _ (g : Reading) (s t : List ℕ) (h : source_test s ≡ Sound) (k : sourc
   equal_stores = ap plain_words (stored_sound g s h room) ∙ equal_words (rules_of g) refl (reading_sane g) s t h k e room ∙ ap plain_words (sym (stored_sound g t k room))
 
 -- a source whose list is safe lists, stores and is outlined in rune's reading as where the first `*/` closes
-module _ (s : List ℕ) (h : source_test s ≡ Sound) (safe : switch_safe s (tokens_at (rules_of first_close) s 0) ≡ true) (room : ℕ) where
+module _ (s : List ℕ) (h : source_test s ≡ Ok tt) (safe : switch_safe s (tokens_at (rules_of first_close) s 0) ≡ true) (room : ℕ) where
   same : tokens_at (rules_of rune) s 0 ≡ tokens_at (rules_of first_close) s 0
   same = switch_safe_law s safe
 

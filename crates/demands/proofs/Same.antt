@@ -1,4 +1,5 @@
 -- The tokens of painted scalars are the tokens of the scalars, up to the escape mark. Assumes nothing.
+use Rattle.std.specs.Prelude.{Err, Ok}
 use Prim.Native.Nat.{ℕ, ◌+◌, ◌≤◌, ◌<◌}
 use mathlib.Core.Path.{◌≡◌, refl, sym, ap, ◌∙◌, subst}
 use mathlib.Core.List.{List, [], ◌∷◌, ◌++◌}
@@ -22,9 +23,7 @@ use Rattle.readers.specs.Numbers.{asks_digit}
 use Rattle.readers.specs.Rules.{Rules}
 use Rattle.text.proofs.Decode.{width_pos}
 use Rattle.text.specs.Utf8.{width}
-use Rattle.token.specs.Reads.{reached_of}
-use Rattle.token.specs.declared.read.Read.{Read}
-use Rattle.token.specs.declared.read.Read.TheVariants.{Got, Refused}
+use Rattle.token.specs.Reads.{reached_of, Read}
 use Rattle.token.specs.declared.read.Token.{Token}
 
 -- one token more
@@ -56,7 +55,7 @@ module _ (R : Rules) (n : ℕ) where
       rw (lt-ltb p (place_after width a (p + width v)) (omega arith), tokens_of) (pass a x (p + width v))
 
   -- a token read over a front, then the rest
-  pub tokens_on : (a x : List ℕ) (p : ℕ) (k : Token) → next_of (in_bytes R) n (a ++ x) p ≡ Got k → place_after width a p ≡ k.span.end → p < k.span.end → listed (a ++ x) p ≡ more k (listed x k.span.end)
+  pub tokens_on : (a x : List ℕ) (p : ℕ) (k : Token) → next_of (in_bytes R) n (a ++ x) p ≡ Ok k → place_after width a p ≡ k.span.end → p < k.span.end → listed (a ++ x) p ≡ more k (listed x k.span.end)
   unfolding tokens_of place_after
   tokens_on [] x p k e h l = absurd (omega arith)
   tokens_on (v ∷ a) x p k e h l =
@@ -65,7 +64,7 @@ module _ (R : Rules) (n : ℕ) where
 
   -- .. and back
   pub record First (v : ℕ) (cs : List ℕ) (p : ℕ) (k : Token) : Type 0 where
-    pub read : next_of (in_bytes R) n (v ∷ cs) p ≡ Got k
+    pub read : next_of (in_bytes R) n (v ∷ cs) p ≡ Ok k
     pub past : p < k.span.end
     pub passed : p + width v ≤ k.span.end
 
@@ -74,10 +73,10 @@ module _ (R : Rules) (n : ℕ) where
   tokens_first v cs p k ts e = go (next_of (in_bytes R) n (v ∷ cs) p) refl (sym (rw (le-ltb p 0 (omega arith), tokens_of)) ∙ e)
     where
       go : (r : Read) → next_of (in_bytes R) n (v ∷ cs) p ≡ r → each_of r (λ t. tokens_of (in_bytes R) n t cs (p + width v)) ≡ more k ts → First v cs p k
-      go (Refused r) er h = never (cc)
-      go (Got j) er h =
+      go (Err r) er h = never (cc)
+      go (Ok j) er h =
           let ej : j ≡ k = cc in
-          let read : next_of (in_bytes R) n (v ∷ cs) p ≡ Got k = er ∙ ap Got ej in
+          let read : next_of (in_bytes R) n (v ∷ cs) p ≡ Ok k = er ∙ ap Ok ej in
           let ends : reached_of (next_of (in_bytes R) n (v ∷ cs) p) ≡ k.span.end = ap reached_of read in
           let l = lands_le (in_bytes R) cs (p + width v) (reached_of (next_of (in_bytes R) n (v ∷ cs) p)) (next_consumes (in_bytes R) n v cs p) in
           let w = width_pos v in

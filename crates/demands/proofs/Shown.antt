@@ -1,4 +1,5 @@
 -- What the list of tokens must know of one token and its painted scalars. Assumes nothing.
+use Rattle.std.specs.Prelude.{Err, Ok}
 use Prim.Native.Nat.{ℕ, ◌+◌, ◌≤◌, ◌<◌}
 use mathlib.Core.Path.{◌≡◌, sym, ap, ◌∙◌, subst}
 use mathlib.Core.List.{List, ◌++◌, append_assoc}
@@ -29,10 +30,8 @@ use Rattle.readers.specs.Rules.{Rules}
 use Rattle.templates.specs.Body.{token_of}
 use Rattle.text.proofs.Decode.{width_pos}
 use Rattle.text.specs.Utf8.{width}
-use Rattle.token.specs.Reads.{reached_of}
+use Rattle.token.specs.Reads.{reached_of, Read, number_in}
 use Rattle.token.specs.declared.kind.Kind.{Kind}
-use Rattle.token.specs.declared.read.Read.{Read}
-use Rattle.token.specs.declared.read.Read.TheVariants.{Got, Refused}
 use Rattle.token.specs.declared.read.Token.{Token}
 use Rattle.marks.specs.Marks as kept
 
@@ -40,9 +39,9 @@ use Rattle.marks.specs.Marks as kept
 pub bytes_sane : (R : Rules) → R.start 96 ≡ false → Sane (in_bytes R)
 bytes_sane R t = record { steps = width_pos; tick = t }
 
-closed_got : (n : ℕ) (r : Read) (k : Token) → close_span n r ≡ Got k → r ≡ Got k
-closed_got n (Got j) k = λ h. h
-closed_got n (Refused r) k = split (eqb r.number 12) (λ e. rw e (λ h. never (cc))) (λ e. rw e (λ h. never (cc)))
+closed_got : (n : ℕ) (r : Read) (k : Token) → close_span n r ≡ Ok k → r ≡ Ok k
+closed_got n (Ok j) k = λ h. h
+closed_got n (Err r) k = split (eqb (number_in r) 12) (λ e. rw e (λ h. never (cc))) (λ e. rw e (λ h. never (cc)))
 
 module _ (R : Rules) (n : ℕ) where
   -- a mark before the token: no shebang
@@ -61,9 +60,9 @@ module _ (R : Rules) (n : ℕ) where
     pub whole : cs ≡ front ++ back
     pub ends : place_after width front p ≡ k.span.end
     pub paints : (m : ℕ → Bool) → Agrees m p k → (flat m front p ≡ shown) × Even m front p
-    pub reads : (x : List ℕ) → Near back x → next_of (in_bytes R) n (shown ++ x) p ≡ Got (plain_token k)
+    pub reads : (x : List ℕ) → Near back x → next_of (in_bytes R) n (shown ++ x) p ≡ Ok (plain_token k)
 
-  module _ (tick : R.start 96 ≡ false) (cs : List ℕ) (p : ℕ) (k : Token) (e : next_of (in_bytes R) n cs p ≡ Got k) where
+  module _ (tick : R.start 96 ≡ false) (cs : List ℕ) (p : ℕ) (k : Token) (e : next_of (in_bytes R) n cs p ≡ Ok k) where
     starts : k.span.start ≡ p
     starts = next_start (in_bytes R) n cs p k e
 
@@ -72,7 +71,7 @@ module _ (R : Rules) (n : ℕ) where
     plain_shown h =
         let c = next_cut (in_bytes R) n cs p in
         let ends : place_after width c.front p ≡ k.span.end = sym c.ends ∙ ap reached_of e in
-        let read : next_of (in_bytes R) n (c.front ++ c.back) p ≡ Got k = ap (λ (l : List ℕ). next_of (in_bytes R) n l p) (sym c.whole) ∙ e in
+        let read : next_of (in_bytes R) n (c.front ++ c.back) p ≡ Ok k = ap (λ (l : List ℕ). next_of (in_bytes R) n l p) (sym c.whole) ∙ e in
         let none : (m : ℕ → Bool) → Agrees m p k → Const m c.front p false = λ m a i l u. a i l (omega arith) ∙ in_plain k i h in
         record {
           front = c.front;
@@ -83,7 +82,7 @@ module _ (R : Rules) (n : ℕ) where
           paints = λ m a. (flat_none m c.front p (none m a), even_const m c.front p false (none m a));
           reads = λ x d.
               next_local (in_bytes R) (bytes_sane R tick) n c.front c.back x p (ap reached_of read ∙ sym ends) d
-              ∙ read ∙ (λ i. Got (record { kind = sym (plain_kind_law k.kind h) i; span = k.span }));
+              ∙ read ∙ (λ i. Ok (record { kind = sym (plain_kind_law k.kind h) i; span = k.span }));
         }
 
     module _ (f : Framed (in_bytes R) cs p k) where
@@ -170,7 +169,7 @@ module _ (R : Rules) (n : ℕ) where
       frame_shown =
           let B = in_bytes R in
           let j = place_after width f.mid 0 in
-          let read : token_of B 64 cs p ≡ Got k =
+          let read : token_of B 64 cs p ≡ Ok k =
           closed_got n (token_of B 64 cs p) k
           (ap (λ (l : List ℕ). close_span n (token_of B 64 l p)) f.whole ∙ sym (next_marked f.shape (f.mid ++ (mark_after f.shape ++ f.back)) p) ∙ ap (λ (l : List ℕ). next_of B n l p) (sym f.whole) ∙ e) in
           record {

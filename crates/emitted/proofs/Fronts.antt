@@ -25,6 +25,7 @@ use Rattle.looks.specs.Calls.{Turn, advance_by, advance_refusal, array_by, array
 use Rattle.looks.specs.Front.{yes}
 use Rattle.looks.specs.Numbered.{token_count}
 use Rattle.looks.specs.Sound.{bounded_by, count_sum, sound_by, whole_by}
+use Rattle.looks.specs.declared.look.Stop.TheVariants.{Faulty}
 use Rattle.looks.specs.While.{bump_while_by, while_refusal}
 
 pub fresh_sized : (keep : Bool) → Sized (fresh_by keep)
@@ -57,7 +58,7 @@ module _ (l : List ℕ) where
       }
 
   -- a state that is not sound is refused with 34, and nothing moves
-  pub unsound_refused : (t : ℕ) (call : Call) (st : State) → sound_by t l st ≡ false → turn_of t l call st ≡ refuses 34 st
+  pub unsound_refused : (t : ℕ) (call : Call) (st : State) → sound_by t l st ≡ false → turn_of t l call st ≡ refuses Faulty st
   unfolding fill_by nth_by nth_token_by glued_by is_eof_by flush_by bump_by bump_if_by bump_while_by advance_by array_by fill_refusal while_refusal advance_refusal array_refusal
   unsound_refused t (fills n) st s = rw s
   unsound_refused t (nths n) st s = rw s
@@ -149,7 +150,7 @@ module _ (t : ℕ) (l : List ℕ) (real : Real l) (keep : Bool) where
 
 -- the calls of document 01 over a list that is not whole refuse all with 34, and emit nothing
 module _ (l : List ℕ) where
-  quiet : (call : Call) (st : State) → emitted_by call (refuses 34 st) ≡ []
+  quiet : (call : Call) (st : State) → emitted_by call (refuses Faulty st) ≡ []
   quiet (fills n) st = refl
   quiet (nths n) st = refl
   quiet (tokens n) st = refl

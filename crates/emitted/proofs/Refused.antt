@@ -7,67 +7,52 @@ use native.Mathlib.Omega.{arith}
 use lib.Dec.{leb, eqb}
 use lib.ListN.{get_or, length}
 use borrow.Author.Tests.{le-leb, lt-ltb}
+use Rattle.std.specs.Prelude.{Result, Ok, Err}
 use Rattle.ahead.specs.View.{fresh_by}
 use Rattle.emitted.specs.Sequence.{Call, advances, arrays, bumps, bumps_if, bumps_while, ends, fills, flushes, glues, nths, tokens, turn_of}
-use Rattle.laws.proofs.Cases.{both_true, split}
-use Rattle.laws.specs.Bools.{both, either, pick, within}
-use Rattle.looks.specs.Buffer.{State, fill, fits, gathers}
+use Rattle.laws.proofs.Cases.{both_true}
+use Rattle.laws.specs.Bools.{both, pick, within}
+use Rattle.looks.specs.Answer.{done, number_of}
+use Rattle.looks.specs.Buffer.{State, fill, gathers}
 use Rattle.looks.specs.Calls.{Turn, advance_by, advance_refusal, advance_turn, array_by, array_refusal, array_turn, bump_answer, bump_by, bump_if_by, fill_by, fill_refusal, flush_by, flush_turn, front_turn, glued_by, is_eof_by, nth_by, nth_token_by, refuses, shows, stored_by, unless}
 use Rattle.looks.specs.Front.{nth_of, white_of}
 use Rattle.looks.specs.Numbered.{token_count}
 use Rattle.looks.specs.Sound.{bounded_by, count_sum, ordered_by, sound_by, whole_by}
-use Rattle.looks.specs.While.{bump_while_by, plan_of, while_refusal, while_run, while_turn}
-use Rattle.looks.specs.declared.look.Looked.{Looked}
-use Rattle.looks.specs.declared.look.Looked.TheVariants.{Done, Refused}
+use Rattle.looks.specs.While.{bump_while_by, while_refusal, while_run, while_turn}
+use Rattle.looks.specs.declared.look.Done.{Done}
+use Rattle.looks.specs.declared.look.Stop.{Stop}
+use Rattle.looks.specs.declared.look.Stop.TheVariants.{Faulty, PastHeld, StoreShort, TooFar, WaitingFull}
 
 -- what a call left, wrote and answered: no refusal, or one that kept both
-abbrev Told : State → State → List ℕ → Looked → Type 0
-Told st f ws (Done count value start end) = Unit {0}
-Told st f ws (Refused number) = (f ≡ st) × (ws ≡ []) × (within 30 34 number ≡ true)
+abbrev Told : State → State → List ℕ → Result Done Stop → Type 0
+Told st f ws (Ok done) = Unit {0}
+Told st f ws (Err stop) = (f ≡ st) × (ws ≡ [])
 
 abbrev Keeps : State → Turn → Type 0
 Keeps st u = Told st u.state u.written u.answer
-
--- the number of a refusal, or 0 for none
-abbrev Number : ℕ → Type 0
-Number n = either (eqb n 0) (within 30 34 n) ≡ true
-
-pick_number : (b : Bool) (x y : ℕ) → Number x → Number y → Number (pick b x y)
-pick_number true x y h k = h
-pick_number false x y h k = k
 
 pick_keeps : (st : State) (b : Bool) (x y : Turn) → Keeps st x → Keeps st y → Keeps st (pick b x y)
 pick_keeps st true x y h k = h
 pick_keeps st false x y h k = k
 
-unless_keeps : (number : ℕ) (st : State) (u : Turn) → Number number → Keeps st u → Keeps st (unless number st u)
-unless_keeps number st u h k = split (eqb number 0) (λ b. rw b k) (λ b. rw b (refl, refl, rw b at h))
+unless_keeps : (A : Type 0) (no : Result A Stop) (st : State) (u : Turn) → Keeps st u → Keeps st (unless no st u)
+unless_keeps A (Ok a) st u k = k
+unless_keeps A (Err stop) st u k = (refl, refl)
 
 stored_keeps : (room : ℕ) (st : State) (u : Turn) → Keeps st u → Keeps st (stored_by room st u)
-stored_keeps room st u k = pick_keeps st (leb (length u.written) room) u (refuses 33 st) k (refl, refl, refl)
+stored_keeps room st u k = pick_keeps st (leb (length u.written) room) u (refuses StoreShort st) k (refl, refl)
+
+-- a refusal's number is one of 30 to 34
+pub refused_number : (stop : Stop) → within 30 34 (number_of stop) ≡ true
+refused_number TooFar = refl
+refused_number WaitingFull = refl
+refused_number PastHeld = refl
+refused_number StoreShort = refl
+refused_number Faulty = refl
 
 module _ (t : ℕ) (l : List ℕ) where
-  fill_number : (n : ℕ) (st : State) → Number (fill_refusal t l n st)
-  unfolding fill_refusal
-  fill_number n st = pick_number (sound_by t l st) _ _ (pick_number (leb n 7) _ _ (pick_number (fits l n st.nums) _ _ refl refl) refl) refl
-
-  while_number : (kind : ℕ) (st : State) → Number (while_refusal t l kind st)
-  unfolding while_refusal plan_of
-  while_number kind st =
-      let run = while_run l kind st in
-      pick_number (sound_by t l st) _ _
-      (split (both (fits l 0 st.nums) run.fitting) (λ b. rw b (pick_number (both (eqb kind 67) (eqb run.state.nums.held_len 0)) _ _ refl refl)) (λ b. rw b refl)) refl
-
-  advance_number : (n : ℕ) (st : State) → Number (advance_refusal t l n st)
-  unfolding advance_refusal
-  advance_number n st = pick_number (sound_by t l st) _ _ (pick_number (leb n st.nums.held_len) _ _ refl refl) refl
-
-  array_number : (n : ℕ) (st : State) → Number (array_refusal t l n st)
-  unfolding array_refusal
-  array_number n st = pick_number (eqb n 0) _ _ (pick_number (sound_by t l st) _ _ refl refl) (fill_number (n - 1) st)
-
   filled_keeps : (n : ℕ) (st : State) (u : Turn) → Keeps st u → Keeps st (unless (fill_refusal t l n st) st u)
-  filled_keeps n st u = unless_keeps (fill_refusal t l n st) st u (fill_number n st)
+  filled_keeps n st u = unless_keeps Unit (fill_refusal t l n st) st u
 
   keeps : (call : Call) (st : State) → Keeps st (turn_of t l call st)
   unfolding fill_by nth_by nth_token_by glued_by is_eof_by flush_by bump_by bump_if_by bump_while_by advance_by array_by
@@ -81,23 +66,15 @@ module _ (t : ℕ) (l : List ℕ) where
   keeps (bumps_if kind room) st =
       let f = fill l 0 st in
       let is = eqb (get_or (nth_of l 0 f) 0 0) kind in
-      let u = front_turn l (Done (white_of f + 1) 1 0 0) f in
+      let u = front_turn l (done (white_of f + 1) 1 0 0) f in
       filled_keeps 0 st _ (stored_keeps room st (pick is u (shows 0 f)) (pick_keeps st is u (shows 0 f) tt tt))
-  keeps (bumps_while kind room) st = unless_keeps (while_refusal t l kind st) st _ (while_number kind st) (stored_keeps room st (while_turn (while_run l kind st)) tt)
-  keeps (advances n room) st = unless_keeps (advance_refusal t l n st) st _ (advance_number n st) (stored_keeps room st (advance_turn l n st) tt)
-  keeps (arrays n room) st = unless_keeps (array_refusal t l n st) st _ (array_number n st) (stored_keeps room st (array_turn l n (gathers l (n - st.nums.held_len) st)) tt)
+  keeps (bumps_while kind room) st = unless_keeps ℕ (while_refusal t l kind st) st _ (stored_keeps room st (while_turn (while_run l kind st)) tt)
+  keeps (advances n room) st = unless_keeps Unit (advance_refusal t l n st) st _ (stored_keeps room st (advance_turn l n st) tt)
+  keeps (arrays n room) st = unless_keeps Unit (array_refusal t l n st) st _ (stored_keeps room st (array_turn l n (gathers l (n - st.nums.held_len) st)) tt)
 
-  module _ (call : Call) (st : State) (number : ℕ) (e : (turn_of t l call st).answer ≡ Refused number) where
-    told : ((turn_of t l call st).state ≡ st) × ((turn_of t l call st).written ≡ []) × (within 30 34 number ≡ true)
-    told = subst (Told st (turn_of t l call st).state (turn_of t l call st).written) e (keeps call st)
-
-    -- a refused call leaves the state as it was and writes nothing
-    pub refused_same : ((turn_of t l call st).state ≡ st) × ((turn_of t l call st).written ≡ [])
-    refused_same = (told.0, told.1)
-
-    -- .. and is refused with one of 30 to 34
-    pub refused_number : within 30 34 number ≡ true
-    refused_number = told.2
+  -- a refused call leaves the state as it was and writes nothing
+  pub refused_same : (call : Call) (st : State) (stop : Stop) → (turn_of t l call st).answer ≡ Err stop → ((turn_of t l call st).state ≡ st) × ((turn_of t l call st).written ≡ [])
+  refused_same call st stop e = subst (Told st (turn_of t l call st).state (turn_of t l call st).written) e (keeps call st)
 
   -- with `tested` not 0, 34 refuses only what leads outside the rings and the list: of a faulty list the words are shown as they stand, and past its end as 0
   pub tested_sound : (st : State) → 0 < t → sound_by t l st ≡ both (bounded_by l st.nums) (leb (count_sum st.counts st.nums.held_len st.nums.held_at) st.nums.wait_len)

@@ -22,7 +22,7 @@ use Rattle.looks.specs.Calls.{bumped, flushed}
 use Rattle.looks.specs.Front.{front_white, less_held, less_waiting, white_of}
 use Rattle.looks.specs.Numbered.{dark, dark_from, is_white, kind_at, token_count}
 use Rattle.looks.specs.Sound.{ascends_by, bounded_by, count_sum, ordered_by, sound_by, whole_by}
-use Rattle.looks.specs.declared.state.Nums.{Nums}
+use Rattle.ahead.specs.declared.Nums.{Nums}
 
 pub record Sound (l : List ℕ) (st : State) : Type 0 where
   pub sized : Sized st

@@ -22,7 +22,7 @@ use Rattle.looks.specs.Buffer.{State, gather, gather_at, gather_nums, gather_to,
 use Rattle.looks.specs.Calls.{bumped, flushed}
 use Rattle.looks.specs.Front.{front_words, less_waiting, nth_of, nth_words, white_of, white_words}
 use Rattle.looks.specs.Numbered.{dark, eof_words, kind_at, token_at, token_count}
-use Rattle.looks.specs.declared.state.Nums.{Nums}
+use Rattle.ahead.specs.declared.Nums.{Nums}
 
 -- no token of the list is an end-of-file token
 abbrev pub Real : List ℕ → Type 0

@@ -11,7 +11,7 @@ use Rattle.laws.proofs.Cases.{split}
 use Rattle.looks.specs.Buffer.{State, gather_at, gather_to, queued, white_to}
 use Rattle.looks.specs.Calls.{bumped, flushed}
 use Rattle.looks.specs.Front.{front_white, less_held, less_waiting, white_of}
-use Rattle.looks.specs.declared.state.Nums.{Nums}
+use Rattle.ahead.specs.declared.Nums.{Nums}
 
 abbrev pub held_of : State → List ℕ
 held_of st = slots 8 st.held st.nums.held_at st.nums.held_len

@@ -13,12 +13,13 @@ use Rattle.laws.proofs.Cases.{both_inv, never, split, split_eq, within_inv}
 use Rattle.laws.specs.Bools.{both, within}
 use Rattle.looks.proofs.Numbers.{count_bound, count_whole}
 use Rattle.looks.specs.Numbered.{token_count}
-use Rattle.looks.specs.Sound.{good, whole_by}
+use Rattle.looks.specs.Sound.{whole_by}
+use Rattle.std.specs.Result.{is_ok}
 use Rattle.rows.specs.Rows.{list_check, record_check, rows_check, rows_of, word_row}
 
 -- a good first row, and good rows after it
-row_first : (k n last : ℕ) (s : List ℕ) → good (rows_check n last (rows_of word_row 3 (suc k) s)) ≡ true
-    → (get_or s 0 0 ≤ 66) × (last < get_or s 2 0) × (good (rows_check (n + 1) (get_or s 2 0) (rows_of word_row 3 k (drop 3 s))) ≡ true)
+row_first : (k n last : ℕ) (s : List ℕ) → is_ok (rows_check n last (rows_of word_row 3 (suc k) s)) ≡ true
+    → (get_or s 0 0 ≤ 66) × (last < get_or s 2 0) × (is_ok (rows_check (n + 1) (get_or s 2 0) (rows_of word_row 3 k (drop 3 s))) ≡ true)
 unfolding rows_check rows_of record_check
 row_first k n last s h =
     split (within 1 66 (get_or s 0 0))
@@ -32,7 +33,7 @@ row_first k n last s h =
     (λ b. never (let z : false ≡ true = rw (w, b) at h in cc)))
     (λ w. never (let z : false ≡ true = rw w at h in cc))
 
-rows_real : (k n last : ℕ) (s : List ℕ) → good (rows_check n last (rows_of word_row 3 k s)) ≡ true → (i : ℕ) → i < k → get_or s (i * 3) 0 ≤ 66
+rows_real : (k n last : ℕ) (s : List ℕ) → is_ok (rows_check n last (rows_of word_row 3 k s)) ≡ true → (i : ℕ) → i < k → get_or s (i * 3) 0 ≤ 66
 rows_real zero n last s h i b = absurd (omega arith)
 rows_real (suc k) n last s h i b =
     let r = row_first k n last s h in
@@ -44,7 +45,7 @@ rows_real (suc k) n last s h i b =
     omega (arith, more, get_or-drop 3 s ((i - 1) * 3) 0, ap (λ (j : ℕ). get_or s j 0) e))
 
 -- each row ends past its start
-rows_long : (k n last b : ℕ) (s : List ℕ) → good (rows_check n last (rows_of word_row 3 k s)) ≡ true → last < b → ((i : ℕ) → get_or s i 0 < b) → last + k < b
+rows_long : (k n last b : ℕ) (s : List ℕ) → is_ok (rows_check n last (rows_of word_row 3 k s)) ≡ true → last < b → ((i : ℕ) → get_or s i 0 < b) → last + k < b
 rows_long zero n last b s h few all = omega arith
 rows_long (suc k) n last b s h few all =
     let r = row_first k n last s h in
@@ -53,7 +54,7 @@ rows_long (suc k) n last b s h few all =
     omega arith
 
 module _ (l : List ℕ) (w : whole_by l ≡ true) where
-  whole_rows : good (rows_check 0 0 (rows_of word_row 3 (length l / 3) l)) ≡ true
+  whole_rows : is_ok (rows_check 0 0 (rows_of word_row 3 (length l / 3) l)) ≡ true
   unfolding whole_by list_check
   whole_rows = split (eqb (length l % 3) 0) (λ b. rw b at w) (λ b. never (let z : false ≡ true = rw b at w in cc))
 

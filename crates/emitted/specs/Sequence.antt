@@ -1,12 +1,12 @@
 -- Document 01, "The lookahead buffer": any sequence of calls, and what it has emitted.
-use Rattle.std.specs.Prelude.{ℕ, ◌/◌, ◌≤◌, ◌≡◌, List, [], ◌∷◌, ◌++◌, Bool, true, false, eqb, length, take}
+use Rattle.std.specs.Prelude.{ℕ, ◌/◌, ◌≤◌, ◌≡◌, List, [], ◌∷◌, ◌++◌, Bool, Result, is_ok, eqb, length, take}
 use Rattle.laws.specs.Bools.{pick}
 use Rattle.looks.specs.Buffer.{State}
 use Rattle.looks.specs.Calls.{Turn, advance_by, array_by, bump_by, bump_if_by, fill_by, flush_by, glued_by, is_eof_by, nth_by, nth_token_by}
 use Rattle.looks.specs.Numbered.{is_white}
 use Rattle.looks.specs.While.{bump_while_by}
-use Rattle.looks.specs.declared.look.Looked.{Looked}
-use Rattle.looks.specs.declared.look.Looked.TheVariants.{Done, Refused}
+use Rattle.looks.specs.declared.look.Done.{Done}
+use Rattle.looks.specs.declared.look.Stop.{Stop}
 use Rattle.rows.specs.Rows.{row_place, row_size}
 
 -- a call with its arguments; those that write have the words of room that their store has. `peek` is `nth` of 0
@@ -75,6 +75,5 @@ pub record IsFront (keep : Bool) (l ws : List ℕ) : Type 0 where
   pub few : count ≤ length l / row_size
   pub is : ws ≡ front_part keep l count
 
-abbrev pub accepted : Looked → Bool
-accepted (Done count value start end) = true
-accepted (Refused number) = false
+abbrev pub accepted : Result Done Stop → Bool
+accepted r = is_ok r

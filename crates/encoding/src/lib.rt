@@ -4,8 +4,9 @@
 ghost use Rattle.std.specs.Prelude.{◌≡◌};
 ghost use Rattle.encoding.specs.Encode.{encoded_of, is_scalar, tail_of};
 
-// The bytes of a scalar: `len` of the four, the others 0. No bytes for a number that is no scalar.
-#[derive(Drop)]
+// The bytes of a scalar: `len` of the four, the others 0. No bytes for a number that is no scalar. An array with its length: that the others are 0 is
+// promised (`encoded_of`), and `unescape::put` writes from it without a loop.
+#[derive(Clone, Copy)]
 pub struct Encoded {
     pub len: usize,
     pub bytes: [u8; 4],
@@ -14,13 +15,7 @@ pub struct Encoded {
 pub fn is_scalar(v: u32) -> bool
     ensures { result ≡ is_scalar v }
 {
-    if v <= 0xd7ff {
-        return true;
-    }
-    if v < 0xe000 {
-        return false;
-    }
-    v <= 0x10ffff
+    matches!(v, 0..=0xd7ff | 0xe000..=0x10ffff)
 }
 
 // A tail byte: the six low bits of v.
@@ -30,31 +25,35 @@ fn tail_byte(v: u32) -> u8
     (0x80 + v % 64) as u8
 }
 
-#[tactic(auto, using(crate::proofs::Rows::encoded_1, crate::proofs::Rows::encoded_2))]
+#[tactic(auto, using(crate::proofs::Rows::encoded_1, crate::proofs::Rows::encoded_2, crate::proofs::Rows::encoded_3, crate::proofs::Rows::encoded_4, crate::proofs::Rows::encoded_none, crate::proofs::Rows::scalar_most))]
 pub fn encode(v: u32) -> Encoded
     ensures { result ≡ encoded_of v }
 {
-    if v <= 0x7f {
-        let bytes = [v as u8, 0, 0, 0];
-        return Encoded { len: 1, bytes };
+    match v {
+        0..=0x7f => Encoded {
+            len: 1,
+            bytes: [v as u8, 0, 0, 0],
+        },
+        0x80..=0x7ff => Encoded {
+            len: 2,
+            bytes: [(0xc0 + v / 64) as u8, tail_byte(v), 0, 0],
+        },
+        _ if !is_scalar(v) => Encoded {
+            len: 0,
+            bytes: [0; 4],
+        },
+        0x800..=0xffff => Encoded {
+            len: 3,
+            bytes: [(0xe0 + v / 4096) as u8, tail_byte(v / 64), tail_byte(v), 0],
+        },
+        _ => Encoded {
+            len: 4,
+            bytes: [
+                (0xf0 + v / 262144) as u8,
+                tail_byte(v / 4096),
+                tail_byte(v / 64),
+                tail_byte(v),
+            ],
+        },
     }
-    if v <= 0x7ff {
-        let bytes = [(0xc0 + v / 64) as u8, tail_byte(v), 0, 0];
-        return Encoded { len: 2, bytes };
-    }
-    if !is_scalar(v) {
-        let bytes = [0; 4];
-        return Encoded { len: 0, bytes };
-    }
-    if v <= 0xffff {
-        let bytes = [(0xe0 + v / 4096) as u8, tail_byte(v / 64), tail_byte(v), 0];
-        return Encoded { len: 3, bytes };
-    }
-    let bytes = [
-        (0xf0 + v / 262144) as u8,
-        tail_byte(v / 4096),
-        tail_byte(v / 64),
-        tail_byte(v),
-    ];
-    Encoded { len: 4, bytes }
 }

@@ -1,4 +1,5 @@
 -- Places carried over, reader by reader: the scanner once, then its readers, then operators. Assumes nothing.
+use Rattle.std.specs.Prelude.{None, Option, Some}
 use Prim.Native.Nat.{ℕ, ◌+◌, ◌≤◌}
 use mathlib.Core.Path.{◌≡◌, refl, sym, ap, ◌∙◌}
 use mathlib.Core.List.{List, [], ◌∷◌}
@@ -10,21 +11,17 @@ use borrow.Author.Tests.{eq-eqb, ne_eqb}
 use Rattle.classes.specs.Classes.{is_white_space}
 use Rattle.families.specs.Moves.{Moves, map_read, with_stride}
 use Rattle.families.specs.Sane.{Sane}
-use Rattle.operators.specs.Operators.{find_one, find_three, find_two, found_at, look_one, look_three, look_two, ones, operator_of, or_else, threes, twos}
+use Rattle.operators.specs.Operators.{find_one, find_three, find_two, found_at, look_one, look_three, look_two, ones, operator, operator_of, or_else, threes, twos}
 use Rattle.operators.specs.declared.Operator.{Operator}
-use Rattle.operators.specs.declared.Operator.TheVariants.{Found, Nothing}
 use Rattle.readers.proofs.Lands.{Lands, lands_le, run_lands}
 use Rattle.readers.proofs.Scans.{by_act}
 use Rattle.readers.specs.Numbers.{first_part, number_end, number_lit_of, number_step, plain_step, unsigned}
 use Rattle.readers.specs.Readers.{Bytes, Chars, Quoted, backslashed, body, broken, byte_answer, byte_of, byte_step, char_answer, char_of, char_step, closed_by, comment_end, comment_of, comment_step, control, escape, fresh, in_line, letters, line_of, run, run_step, shut, skips, slashed, str_answer, str_of, str_step, text, white_of, word_of}
 use Rattle.readers.specs.Rules.{Rules}
 use Rattle.readers.specs.Scan.{Act, How, Stop, ended, full, scan, short, stop_at}
-use Rattle.token.specs.Reads.{got_of}
+use Rattle.token.specs.Reads.{got_of, Read}
 use Rattle.token.specs.declared.kind.Kind.{Kind}
 use Rattle.token.specs.declared.kind.Kind.TheVariants.{MultilineComment, Number, Whitespace}
-use Rattle.token.specs.declared.kind.Known.{Known}
-use Rattle.token.specs.declared.kind.Known.TheVariants.{Is, Unknown}
-use Rattle.token.specs.declared.read.Read.{Read}
 
 module _ (R : Rules) (w g : ℕ → ℕ) where
   abbrev pub map_stop : {S : Type 0} → Stop S → Stop S
@@ -125,17 +122,17 @@ module _ (R : Rules) (w g : ℕ → ℕ) where
         let e = run R.stride R.continue cs p in
         rw (run_moves R.continue cs p m, same_place cs p e m (run_lands R R.continue cs p)) refl
 
-  abbrev pub map_found : Operator → Operator
-  map_found (Found k e) = Found k (g e)
-  map_found Nothing = Nothing
+  abbrev pub map_found : Option Operator → Option Operator
+  map_found (Some o) = Some (operator o.kind (g o.end))
+  map_found None = None
 
-  found_moves : (m : Known) (p q : ℕ) → q ≡ g p → found_at m q ≡ map_found (found_at m p)
-  found_moves (Is k) p q h = ap (Found k) h
-  found_moves Unknown p q h = refl
+  found_moves : (m : Option Kind) (p q : ℕ) → q ≡ g p → found_at m q ≡ map_found (found_at m p)
+  found_moves (Some k) p q h = ap (λ (e : ℕ). Some (operator k e)) h
+  found_moves None p q h = refl
 
-  or_moves : (f h f' h' : Operator) → f' ≡ map_found f → h' ≡ map_found h → or_else f' h' ≡ map_found (or_else f h)
-  or_moves (Found k e) h f' h' i j = rw i refl
-  or_moves Nothing h f' h' i j = rw i j
+  or_moves : (f h f' h' : Option Operator) → f' ≡ map_found f → h' ≡ map_found h → or_else f' h' ≡ map_found (or_else f h)
+  or_moves (Some o) h f' h' i j = rw i refl
+  or_moves None h f' h' i j = rw i j
 
   module _ (v : ℕ) where
     two_moves : (cs : List ℕ) (p : ℕ) → Moves R w g cs p → find_two w v cs (g p) ≡ map_found (find_two R.stride v cs p)

@@ -1,4 +1,6 @@
 -- Accepted spans cover a sound source with no gap, and no token is empty. Assumes nothing.
+use Rattle.std.specs.Prelude.{Err, Ok}
+use Rattle.token.specs.Reads.{Read}
 use Prim.Native.Nat.{ℕ, ◌<◌}
 use mathlib.Core.Path.{◌≡◌, refl, sym, ◌∙◌, subst}
 use mathlib.Core.List.{List}
@@ -12,17 +14,14 @@ use Rattle.readers.specs.Rules.{rules_of}
 use Rattle.readers.specs.declared.reading.Reading.{Reading}
 use Rattle.source_test.proofs.Places.{sound_inv}
 use Rattle.source_test.specs.Source.{sound_to, source_test}
-use Rattle.source_test.specs.declared.Tested.TheVariants.{Sound}
 use Rattle.text.proofs.Decode.{after_end, by_step}
 use Rattle.text.specs.Utf8.{after, rest}
-use Rattle.token.specs.declared.read.Read.{Read}
-use Rattle.token.specs.declared.read.Read.TheVariants.{Got, Refused}
 use Rattle.token.specs.declared.read.Refusal.{Refusal}
 use Rattle.token.specs.declared.read.Token.{Token}
 
-pub by_read {ℓ} : {X : Type ℓ} (r : Read) → ((k : Token) → r ≡ Got k → X) → ((k : Refusal) → r ≡ Refused k → X) → X
-by_read (Got k) f g = f k refl
-by_read (Refused k) f g = g k refl
+pub by_read {ℓ} : {X : Type ℓ} (r : Read) → ((k : Token) → r ≡ Ok k → X) → ((k : Refusal) → r ≡ Err k → X) → X
+by_read (Ok k) f g = f k refl
+by_read (Err k) f g = g k refl
 
 cover_from : (g : Reading) (s : List ℕ) (ts : Tokens) (p : ℕ) → ts ≡ tokens_at (rules_of g) s p → after (rest s p) p ≡ length s → Covers ts p (length s)
 unfolding Covers
@@ -33,7 +32,7 @@ cover_from g s fin p e h =
     (λ i. never (let z = tokens_more g s p (next_at g s p) refl k q i in cc)))
     (λ k q. never (let z = tokens_halt g s p (next_at g s p) refl k q in cc))
   where
-    ends : (k : Token) → next_at g s p ≡ Got k → k.span.end ≡ p → p ≡ length s
+    ends : (k : Token) → next_at g s p ≡ Ok k → k.span.end ≡ p → p ≡ length s
     ends k q i =
         by_step s p (λ z. sym (after_end s p z) ∙ h)
         (λ v n t. absurd (let z = tokens_past_step g s p k q v n t in omega arith))
@@ -50,6 +49,6 @@ cover_from g s (more k ts) p e h =
     (λ j q. never (let z = tokens_halt g s p (next_at g s p) refl j q in cc))
 
 -- document 01: accepted spans cover the source with no gap
-pub covers : (g : Reading) (s : List ℕ) → source_test s ≡ Sound → Covers (tokens_at (rules_of g) s 0) 0 (length s)
+pub covers : (g : Reading) (s : List ℕ) → source_test s ≡ Ok tt → Covers (tokens_at (rules_of g) s 0) 0 (length s)
 unfolding sound_to
 covers g s h = cover_from g s (tokens_at (rules_of g) s 0) 0 refl (sound_inv s h).1

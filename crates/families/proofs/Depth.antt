@@ -1,4 +1,5 @@
 -- Templates one inside the other are read up to 64 deep, and refused from the 65th on. Assumes nothing.
+use Rattle.token.specs.declared.reason.Reason.TheVariants.{TooDeep}
 use Prim.Native.Nat.{ℕ, zero, suc, ◌+◌, ◌*◌, ◌≤◌, ◌<◌}
 use mathlib.Core.Path.{◌≡◌, refl, sym, ap, ◌∙◌}
 use mathlib.Core.List.{List, [], ◌∷◌, ◌++◌, append_assoc, append-nil}
@@ -18,9 +19,8 @@ use Rattle.templates.proofs.Turns.{after_deep, after_got, body_close, token_deep
 use Rattle.templates.specs.Body.{template_of, token_of}
 use Rattle.text.proofs.Decode.{Step, rest_end, step_first}
 use Rattle.text.specs.Utf8.{first, lead_of, rest}
-use Rattle.token.specs.Reads.{got_of, refused_of}
+use Rattle.token.specs.Reads.{got_of, refused_of, Read}
 use Rattle.token.specs.declared.kind.Kind.TheVariants.{Template}
-use Rattle.token.specs.declared.read.Read.{Read}
 
 -- a template with k more inside, each opened after a backslash in the one before and closed
 unfoldable pub nested : ℕ → List ℕ
@@ -76,14 +76,14 @@ module _ (g : Reading) (s : List ℕ) where
       ∙ token_deep g (suc d) s p 96 (p + 1) (open_step p x (suc n) e) refl
 
   -- .. and one with d or more is refused up to after the backtick of the one too many
-  refuse_nested : (d n p : ℕ) (x : List ℕ) → drop p s ≡ nested n ++ x → d ≤ n → refused_of 19 p (p + (2 * d + 1)) (p + (2 * d + 1)) ≡ token_of (rules_of g) d (rest s p) p
+  refuse_nested : (d n p : ℕ) (x : List ℕ) → drop p s ≡ nested n ++ x → d ≤ n → refused_of TooDeep p (p + (2 * d + 1)) (p + (2 * d + 1)) ≡ token_of (rules_of g) d (rest s p) p
   unfolding deep_of template_of
   refuse_nested zero n p x e h = token_deep g 0 s p 96 (p + 1) (open_step p x n e) refl
   refuse_nested (suc d) zero p x e h = absurd (omega arith)
   refuse_nested (suc d) (suc n) p x e h =
       let q = p + 1 + 1 + (2 * d + 1) in
-      ap (λ (z : ℕ). refused_of 19 p z z) (omega arith)
-      ∙ after_deep g d p s (p + 1) 0 92 (p + 1 + 1) (slash_step p x n e) refl (refused_of 19 (p + 1 + 1) q q) (refuse_nested d n (p + 1 + 1) (96 ∷ x) (inside p x n e) (omega arith)) _ refl refl
+      ap (λ (z : ℕ). refused_of TooDeep p z z) (omega arith)
+      ∙ after_deep g d p s (p + 1) 0 92 (p + 1 + 1) (slash_step p x n e) refl (refused_of TooDeep (p + 1 + 1) q q) (refuse_nested d n (p + 1 + 1) (96 ∷ x) (inside p x n e) (omega arith)) _ refl refl
       ∙ token_deep g (suc d) s p 96 (p + 1) (open_step p x (suc n) e) refl
 
 module _ (g : Reading) (n : ℕ) where
@@ -110,4 +110,4 @@ module _ (g : Reading) (n : ℕ) where
   unfolding shown_of
   depth_refused h =
       let s = nested n in
-      rw (tokens_halt g s 0 (next_at g s 0) refl _ (next_nested (refused_of 19 0 129 129) (refuse_nested g s 64 n 0 [] whole h)))
+      rw (tokens_halt g s 0 (next_at g s 0) refl _ (next_nested (refused_of TooDeep 0 129 129) (refuse_nested g s 64 n 0 [] whole h)))

@@ -1,4 +1,5 @@
 -- A token ends at a scalar's place, past the scalar that it starts with, whether it is accepted or refused. Assumes nothing.
+use Rattle.std.specs.Prelude.{Err, Ok}
 use Prim.Native.Nat.{ℕ, ◌+◌, ◌≤◌, ◌<◌}
 use mathlib.Core.Path.{◌≡◌, refl, sym, ap}
 use mathlib.Core.List.{List, [], ◌∷◌, ◌++◌}
@@ -16,10 +17,8 @@ use Rattle.readers.specs.Scan.{Stride}
 use Rattle.templates.proofs.Landing.{NextLands, token_consumes, token_lands}
 use Rattle.templates.specs.Body.{token_of}
 use Rattle.text.specs.Utf8.{after, width}
-use Rattle.token.specs.Reads.{reached_of}
+use Rattle.token.specs.Reads.{reached_of, Read, number_in}
 use Rattle.token.specs.declared.kind.Kind.TheVariants.{Shebang}
-use Rattle.token.specs.declared.read.Read.{Read}
-use Rattle.token.specs.declared.read.Read.TheVariants.{Got, Refused}
 
 module _ (w : Stride) where
   pub after_append : (f g : List ℕ) (p : ℕ) → place_after w (f ++ g) p ≡ place_after w g (place_after w f p)
@@ -43,8 +42,8 @@ module _ (R : Rules) where
 
   -- the shebang and refusal 12's span change nothing here
   pub close_reached : (n : ℕ) (r : Read) → reached_of (close_span n r) ≡ reached_of r
-  close_reached n (Got k) = refl
-  close_reached n (Refused r) = split (eqb r.number 12) (λ e. rw (e, reached_of) refl) (λ e. rw (e, reached_of) refl)
+  close_reached n (Ok k) = refl
+  close_reached n (Err r) = split (eqb (number_in r) 12) (λ e. rw (e, reached_of) refl) (λ e. rw (e, reached_of) refl)
 
   bang_consumes : (v : ℕ) (cs : List ℕ) (p : ℕ) → Lands R cs (p + R.stride v) (reached_of (shebang_of R (v ∷ cs) p))
   bang_consumes v [] p = line_lands R p [] (p + R.stride v) Shebang

@@ -1,4 +1,5 @@
 -- What stands after an opening mark, reader by reader. Assumes nothing.
+use Rattle.std.specs.Prelude.{Err, Ok}
 use Prim.Native.Nat.{ℕ, zero, suc, ◌+◌}
 use mathlib.Core.Path.{◌≡◌, refl, sym, ap, ◌∙◌, subst}
 use mathlib.Core.List.{List, [], ◌∷◌, ◌++◌, append-nil}
@@ -15,10 +16,8 @@ use Rattle.readers.specs.Readers.{Closing, Quoted, after_star, closed_by, commen
 use Rattle.readers.specs.Rules.{Rules}
 use Rattle.readers.specs.Scan.{Act, before, behind, full, on, scan}
 use Rattle.templates.specs.Body.{go_on, template_body}
-use Rattle.token.specs.Reads.{span_of}
+use Rattle.token.specs.Reads.{span_of, Read, number_in}
 use Rattle.token.specs.declared.kind.Kind.TheVariants.{Template}
-use Rattle.token.specs.declared.read.Read.{Read}
-use Rattle.token.specs.declared.read.Read.TheVariants.{Got, Refused}
 
 module _ (R : Rules) where
   -- a form's inside, its closing mark and more, where n scalars are yet to be passed over
@@ -145,16 +144,16 @@ module _ (R : Rules) where
 
   -- a template: what its backslashes read does not matter
   abbrev pub BodyShape : ℕ → ℕ → List ℕ → ℕ → Read → Type 0
-  BodyShape n a cs p (Got k) = (c : Bool) × (k ≡ record { kind = Template c; span = span_of a k.span.end }) × Inner n (template_shape c) cs p k.span.end
-  BodyShape n a cs p (Refused r) = Unit
+  BodyShape n a cs p (Ok k) = (c : Bool) × (k ≡ record { kind = Template c; span = span_of a k.span.end }) × Inner n (template_shape c) cs p k.span.end
+  BodyShape n a cs p (Err r) = Unit
 
   body_cons : (n a : ℕ) (r : Read) (v : ℕ) (cs : List ℕ) (p : ℕ) → BodyShape n a cs (p + R.stride v) r → BodyShape n a (v ∷ cs) p r
-  body_cons n a (Got k) v cs p h = (h.0, h.1, inner_more n (template_shape h.0) v cs p k.span.end h.2)
-  body_cons n a (Refused r) v cs p h = tt
+  body_cons n a (Ok k) v cs p h = (h.0, h.1, inner_more n (template_shape h.0) v cs p k.span.end h.2)
+  body_cons n a (Err r) v cs p h = tt
 
   on_shape : (n a : ℕ) (r : Read) (go : ℕ → Read) (cs : List ℕ) (p : ℕ) → ((t : ℕ) → BodyShape n a cs p (go t)) → BodyShape n a cs p (go_on a r go)
-  on_shape n a (Got k) go cs p g = g k.span.end
-  on_shape n a (Refused r) go cs p g = split (eqb r.number 19) (λ e. rw (e, BodyShape) tt) (λ e. rw (e, BodyShape) (g r.reached))
+  on_shape n a (Ok k) go cs p g = g k.span.end
+  on_shape n a (Err r) go cs p g = split (eqb (number_in r) 19) (λ e. rw (e, BodyShape) tt) (λ e. rw (e, BodyShape) (g r.reached))
 
   pub body_inner : (n : ℕ) (next : List ℕ → ℕ → Read) (a t : ℕ) (cs : List ℕ) (p l : ℕ) → BodyShape n a cs p (template_body R next a t cs p l)
   unfolding template_body place_after

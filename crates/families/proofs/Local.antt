@@ -1,4 +1,6 @@
 -- How far ahead a token looks: the scalars up to the place reached, and those that are near. Assumes nothing.
+use Rattle.operators.specs.declared.Operator.{Operator}
+use Rattle.std.specs.Prelude.{Err, Ok, None, Option, Some}
 use Prim.Native.Nat.{ℕ, zero, suc, ◌+◌, ◌≤◌}
 use mathlib.Core.Path.{◌≡◌, refl, sym, ap, ◌∙◌, subst}
 use mathlib.Core.List.{List, [], ◌∷◌, ◌++◌, append_assoc}
@@ -23,11 +25,13 @@ use Rattle.readers.specs.Readers.{byte_of, comment_of, line_of, str_of}
 use Rattle.readers.specs.Rules.{Rules}
 use Rattle.templates.proofs.Landing.{NextLands, body_consumes, deep_of, token_lands, with_deep}
 use Rattle.templates.specs.Body.{go_on, template_body, template_of, token_of}
-use Rattle.token.specs.Reads.{reached_of}
+use Rattle.token.specs.Reads.{reached_of, Read, number_in}
 use Rattle.token.specs.declared.kind.Kind.TheVariants.{Comment, Shebang}
-use Rattle.token.specs.declared.read.Read.{Read}
-use Rattle.token.specs.declared.read.Read.TheVariants.{Got, Refused}
 use Rattle.token.specs.declared.read.Token.{Token}
+
+abbrev end_in : Option Operator → ℕ
+end_in None = 0
+end_in (Some o) = o.end
 
 module _ (R : Rules) (sane : Sane R) where
   behind_local : (g : List ℕ → ℕ → Read) → Local R g → NextLands R g → (c : ℕ) (f x y : List ℕ) (p : ℕ) → next_is c (f ++ x) ≡ true
@@ -51,7 +55,7 @@ module _ (R : Rules) (sane : Sane R) where
       (λ i e. behind_local (byte_of R.stride a) (byte_local R sane a) (byte_lands R a) 39 f x y p i e h)
       (λ i e. behind_local (str_of R.stride true a) (str_local R sane a true) (λ ds q. str_lands R a ds q true) 34 f x y p (both_inv (eqb v 98) (next_is 34 (f ++ x)) i).1 e h)
       (λ i e. str_local R sane a false f x y p e h)
-      (λ k e q z. rw (op_local R sane v f x y p (λ k' e' q'. let w : e' ≡ e = cc in w ∙ z) h ∙ q))
+      (λ k e q z. rw (op_local R sane v f x y p (λ k' e' q'. ap end_in (sym q' ∙ q) ∙ z) h ∙ q))
       (λ q. op_local R sane v f x y p (λ k e z. never (cc)) h ∙ q)
       (λ e. word_local R sane a v f x y p e h) (λ e. number_local R sane a v R.exponents f x y p e h) (λ e. char_local R sane a f x y p e h)
       (λ i e. d a f x y p e h) (λ e. refl) r
@@ -92,22 +96,22 @@ module _ (R : Rules) (sane : Sane R) where
 
       on_local : (f x y : List ℕ) (q l : ℕ) → Ways f x y q → Near x y → (r : Read) → next (f ++ x) q ≡ r → reached_of (go_on a r (λ t. template_body R next a t (f ++ x) q l)) ≡ place_after R.stride f q
           → go_on a (next (f ++ y) q) (λ t. template_body R next a t (f ++ y) q l) ≡ go_on a r (λ t. template_body R next a t (f ++ x) q l)
-      on_local f x y q l w h (Got k) er e =
+      on_local f x y q l w h (Ok k) er e =
           let lands : Lands R (f ++ x) q k.span.end = subst (λ (r : Read). Lands R (f ++ x) q (reached_of r)) er (nl (f ++ x) q) in
           let reach = body_reach k.span.end (f ++ x) q l lands in
-          let u : next (f ++ y) q ≡ Got k = within_front f x y q (rw er (omega arith)) h ∙ er in
+          let u : next (f ++ y) q ≡ Ok k = within_front f x y q (rw er (omega arith)) h ∙ er in
           rw u (w k.span.end l e)
-      on_local f x y q l w h (Refused k) er e =
-          split (eqb k.number 19)
+      on_local f x y q l w h (Err k) er e =
+          split (eqb (number_in k) 19)
           (λ i.
           let e' = (rw (i, go_on) at e) in
-          let u : next (f ++ y) q ≡ Refused k = within_front f x y q (rw er (omega arith)) h ∙ er in
+          let u : next (f ++ y) q ≡ Err k = within_front f x y q (rw er (omega arith)) h ∙ er in
           rw u (rw (i, go_on) refl))
           (λ i.
           let e' = (rw (i, go_on) at e) in
           let lands : Lands R (f ++ x) q k.reached = subst (λ (r : Read). Lands R (f ++ x) q (reached_of r)) er (nl (f ++ x) q) in
           let reach = body_reach k.reached (f ++ x) q l lands in
-          let u : next (f ++ y) q ≡ Refused k = within_front f x y q (rw er (omega arith)) h ∙ er in
+          let u : next (f ++ y) q ≡ Err k = within_front f x y q (rw er (omega arith)) h ∙ er in
           rw u (rw (i, go_on) (w k.reached l e')))
 
       body_local : (t : ℕ) (f x y : List ℕ) (p l : ℕ) → reached_of (template_body R next a t (f ++ x) p l) ≡ place_after R.stride f p → Near x y → template_body R next a t (f ++ y) p l ≡ template_body R next a t (f ++ x) p l
@@ -153,10 +157,10 @@ module _ (R : Rules) (sane : Sane R) where
       (λ e. rw (i, e) (ap (close_span n) (token_local 64 (v ∷ f) x y p (sym (close_reached R n (token_of R 64 (v ∷ (f ++ x)) p)) ∙ (rw e at r)) h)))
 
 -- an accepted token does not depend on where the source ends
-pub next_any : (R : Rules) (n n' : ℕ) (cs : List ℕ) (p : ℕ) (k : Token) → next_of R n cs p ≡ Got k → next_of R n' cs p ≡ Got k
+pub next_any : (R : Rules) (n n' : ℕ) (cs : List ℕ) (p : ℕ) (k : Token) → next_of R n cs p ≡ Ok k → next_of R n' cs p ≡ Ok k
 unfolding next_of
 next_any R n n' cs p k = split (both (eqb p 0) (is_shebang cs)) (λ e. rw e (λ h. h)) (λ e. rw e (shut_same (token_of R 64 cs p)))
   where
-    shut_same : (r : Read) → close_span n r ≡ Got k → close_span n' r ≡ Got k
-    shut_same (Got j) = λ h. h
-    shut_same (Refused r) = split (eqb r.number 12) (λ e. rw e (λ h. never (cc))) (λ e. rw e (λ h. never (cc)))
+    shut_same : (r : Read) → close_span n r ≡ Ok k → close_span n' r ≡ Ok k
+    shut_same (Ok j) = λ h. h
+    shut_same (Err r) = split (eqb (number_in r) 12) (λ e. rw e (λ h. never (cc))) (λ e. rw e (λ h. never (cc)))

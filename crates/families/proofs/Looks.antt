@@ -1,4 +1,5 @@
 -- How far ahead each reader looks: the scanner once, then its readers, then operators. Assumes nothing.
+use Rattle.std.specs.Prelude.{None, Option, Some}
 use Prim.Native.Nat.{ℕ, zero, suc, ◌+◌, ◌<◌}
 use mathlib.Core.Path.{◌≡◌, refl, sym, ap, ◌∙◌, subst}
 use mathlib.Core.List.{List, [], ◌∷◌, ◌++◌}
@@ -13,20 +14,16 @@ use Rattle.families.specs.Sane.{Sane}
 use Rattle.laws.proofs.Cases.{split}
 use Rattle.laws.specs.Bools.{both, either, pick}
 use Rattle.operators.proofs.Longest.{no_three}
-use Rattle.operators.specs.Operators.{find_one, find_three, find_two, look_three, look_two, operator_of, threes, twos}
-use Rattle.operators.specs.declared.Operator.TheVariants.{Found}
+use Rattle.operators.specs.Operators.{find_one, find_three, find_two, look_three, look_two, operator, operator_of, threes, twos}
 use Rattle.readers.proofs.Lands.{byte_reached, char_reached, lands_le, scan_lands, str_reached}
 use Rattle.readers.proofs.Scans.{by_act}
 use Rattle.readers.specs.Numbers.{asks_digit, first_part, is_sign, number_end, number_lit_of, number_step, plain_step, signed, unsigned}
 use Rattle.readers.specs.Readers.{after_star, backslashed, body, broken, byte_answer, byte_of, byte_step, char_answer, char_of, char_step, closed_by, comment_end, comment_of, comment_step, control, escape, fresh, in_line, letters, line_of, run, run_step, shut, skips, slashed, str_answer, str_of, str_step, text, white_of, word_of}
 use Rattle.readers.specs.Rules.{Rules}
 use Rattle.readers.specs.Scan.{Act, Stop, before, scan}
-use Rattle.token.specs.Reads.{got_of, reached_of}
+use Rattle.token.specs.Reads.{got_of, reached_of, Read}
 use Rattle.token.specs.declared.kind.Kind.{Kind}
 use Rattle.token.specs.declared.kind.Kind.TheVariants.{Ident, MultilineComment, Number, Underscore, Whitespace}
-use Rattle.token.specs.declared.kind.Known.{Known}
-use Rattle.token.specs.declared.kind.Known.TheVariants.{Is, Unknown}
-use Rattle.token.specs.declared.read.Read.{Read}
 
 -- a step looks at its scalar, and where that asks for a digit at one more
 abbrev pub Looks : {S : Type 0} → (S → ℕ → List ℕ → Act S) → Type 0
@@ -136,20 +133,20 @@ module _ (R : Rules) (sane : Sane R) where
   -- operators: of two scalars after the first, both are asked for only where the first two are an operator
   module _ (v : ℕ) where
     -- two that are no operator leave one
-    op_short : (w : ℕ) (cs : List ℕ) (p : ℕ) → look_two twos v w ≡ Unknown → operator_of R.stride v (w ∷ cs) p ≡ find_one v p
+    op_short : (w : ℕ) (cs : List ℕ) (p : ℕ) → look_two twos v w ≡ None → operator_of R.stride v (w ∷ cs) p ≡ find_one v p
     unfolding operator_of find_two find_three
     op_short w [] p h = rw h
     op_short w (u ∷ cs) p h = rw (no_three v w u h, h)
 
     -- two that are leave two or three
-    op_long : (w : ℕ) (cs : List ℕ) (p : ℕ) (j : Kind) → look_two twos v w ≡ Is j → (k : Kind) × (e : ℕ) × (operator_of R.stride v (w ∷ cs) p ≡ Found k e) × (p < e)
+    op_long : (w : ℕ) (cs : List ℕ) (p : ℕ) (j : Kind) → look_two twos v w ≡ Some j → (k : Kind) × (e : ℕ) × (operator_of R.stride v (w ∷ cs) p ≡ Some (operator k e)) × (p < e)
     unfolding operator_of find_two find_three
     op_long w [] p j h = (j, p + R.stride w, rw h refl, (let s = sane.steps w in omega arith))
     op_long w (u ∷ cs) p j h = three (look_three threes v w u) refl
       where
-        three : (m : Known) → look_three threes v w u ≡ m → (k : Kind) × (e : ℕ) × (operator_of R.stride v (w ∷ (u ∷ cs)) p ≡ Found k e) × (p < e)
-        three (Is i) q = (i, p + R.stride w + R.stride u, rw q refl, (let s = sane.steps w in omega arith))
-        three Unknown q = (j, p + R.stride w, rw (q, h) refl, (let s = sane.steps w in omega arith))
+        three : (m : Option Kind) → look_three threes v w u ≡ m → (k : Kind) × (e : ℕ) × (operator_of R.stride v (w ∷ (u ∷ cs)) p ≡ Some (operator k e)) × (p < e)
+        three (Some i) q = (i, p + R.stride w + R.stride u, rw q refl, (let s = sane.steps w in omega arith))
+        three None q = (j, p + R.stride w, rw (q, h) refl, (let s = sane.steps w in omega arith))
 
     op_far : (u : ℕ) (x y : List ℕ) (p : ℕ) → SameFirst x y → operator_of R.stride v (u ∷ y) p ≡ operator_of R.stride v (u ∷ x) p
     unfolding operator_of find_two find_three
@@ -158,14 +155,14 @@ module _ (R : Rules) (sane : Sane R) where
     op_far u (w ∷ x) [] p h = absurd h
     op_far u (w ∷ x) (w' ∷ y) p h = ap (λ (z : ℕ). operator_of R.stride v (u ∷ (z ∷ y)) p) (sym h)
 
-    pub op_local : (f x y : List ℕ) (p : ℕ) → ((k : Kind) (e : ℕ) → operator_of R.stride v (f ++ x) p ≡ Found k e → e ≡ place_after R.stride f p) → Near x y → operator_of R.stride v (f ++ y) p ≡ operator_of R.stride v (f ++ x) p
+    pub op_local : (f x y : List ℕ) (p : ℕ) → ((k : Kind) (e : ℕ) → operator_of R.stride v (f ++ x) p ≡ Some (operator k e) → e ≡ place_after R.stride f p) → Near x y → operator_of R.stride v (f ++ y) p ≡ operator_of R.stride v (f ++ x) p
     unfolding place_after
     op_local [] [] [] p g h = refl
     op_local [] [] (w ∷ y) p g h = absurd h
     op_local [] (w ∷ x) [] p g h = absurd h
     op_local [] (w ∷ x) (w' ∷ y) p g h = subst (λ (z : ℕ). operator_of R.stride v (z ∷ y) p ≡ operator_of R.stride v (w ∷ x) p) h.0 (two (look_two twos v w) refl)
       where
-        two : (m : Known) → look_two twos v w ≡ m → operator_of R.stride v (w ∷ y) p ≡ operator_of R.stride v (w ∷ x) p
-        two (Is j) q = let o = op_long w x p j q in absurd (let z = g o.0 o.1 o.2 in let l = o.3 in omega arith)
-        two Unknown q = op_short w y p q ∙ sym (op_short w x p q)
+        two : (m : Option Kind) → look_two twos v w ≡ m → operator_of R.stride v (w ∷ y) p ≡ operator_of R.stride v (w ∷ x) p
+        two (Some j) q = let o = op_long w x p j q in absurd (let z = g o.0 o.1 o.2 in let l = o.3 in omega arith)
+        two None q = op_short w y p q ∙ sym (op_short w x p q)
     op_local (u ∷ f) x y p g h = op_far u (f ++ x) (f ++ y) p (head_append f x y h)

@@ -1,4 +1,5 @@
 -- A token read with places counted otherwise is the same token with its places mapped. Assumes nothing.
+use Rattle.std.specs.Prelude.{Err, Ok}
 use Prim.Native.Nat.{ℕ, zero, suc, ◌+◌, ◌≤◌}
 use mathlib.Core.Path.{◌≡◌, refl, sym, ap, ◌∙◌}
 use mathlib.Core.List.{List, [], ◌∷◌}
@@ -20,10 +21,8 @@ use Rattle.readers.specs.Readers.{byte_of, comment_of, line_of, str_of}
 use Rattle.readers.specs.Rules.{Rules}
 use Rattle.templates.proofs.Landing.{NextLands, deep_of, token_lands, with_deep}
 use Rattle.templates.specs.Body.{go_on, template_body, template_of, template_turn, token_of}
-use Rattle.token.specs.Reads.{reached_of}
+use Rattle.token.specs.Reads.{reached_of, Read, number_in}
 use Rattle.token.specs.declared.kind.Kind.TheVariants.{Comment, Shebang}
-use Rattle.token.specs.declared.read.Read.{Read}
-use Rattle.token.specs.declared.read.Read.TheVariants.{Got, Refused}
 
 module _ (R : Rules) (w g : ℕ → ℕ) (sane : Sane R) (sane' : Sane (with_stride R w)) where
   behind_moves : (f f' : List ℕ → ℕ → Read) → NextMoves R w g f f' → NextMoves R w g (behind_one R f) (behind_one (with_stride R w) f')
@@ -63,8 +62,8 @@ module _ (R : Rules) (w g : ℕ → ℕ) (sane : Sane R) (sane' : Sane (with_str
 
   module _ (next next' : List ℕ → ℕ → Read) (nm : NextMoves R w g next next') (nl : NextLands R next) (a : ℕ) where
     on_moves : (cs : List ℕ) (q : ℕ) (go go' : ℕ → Read) → ((t t' : ℕ) → Aim cs q t t' → go' t' ≡ map_read g (go t)) → (r : Read) → Lands R cs q (reached_of r) → go_on (g a) (map_read g r) go' ≡ map_read g (go_on a r go)
-    on_moves cs q go go' u (Got k) h = u k.span.end (g k.span.end) (inr (h, refl))
-    on_moves cs q go go' u (Refused r) h = split (eqb r.number 19) (λ e. rw (e, go_on, map_read) refl) (λ e. rw (e, go_on, map_read) (u r.reached (g r.reached) (inr (h, refl))))
+    on_moves cs q go go' u (Ok k) h = u k.span.end (g k.span.end) (inr (h, refl))
+    on_moves cs q go go' u (Err r) h = split (eqb (number_in r) 19) (λ e. rw (e, go_on, map_read) refl) (λ e. rw (e, go_on, map_read) (u r.reached (g r.reached) (inr (h, refl))))
 
     body_moves : (cs : List ℕ) (t t' p l : ℕ) → Moves R w g cs p → Aim cs p t t' → template_body (with_stride R w) next' (g a) t' cs (g p) l ≡ map_read g (template_body R next a t cs p l)
     unfolding template_body
@@ -93,8 +92,8 @@ module _ (R : Rules) (w g : ℕ → ℕ) (sane : Sane R) (sane' : Sane (with_str
   token_moves (suc d) = with_moves (suc d) (λ a cs p m. body_moves (token_of R d) (token_of (with_stride R w) d) (token_moves d) (token_lands R d) a cs 0 0 p 0 m (idle cs p))
 
   close_moves : (n : ℕ) (r : Read) → close_span (g n) (map_read g r) ≡ map_read g (close_span n r)
-  close_moves n (Got k) = refl
-  close_moves n (Refused r) = split (eqb r.number 12) (λ e. rw (e, map_read) refl) (λ e. rw (e, map_read) refl)
+  close_moves n (Ok k) = refl
+  close_moves n (Err r) = split (eqb (number_in r) 12) (λ e. rw (e, map_read) refl) (λ e. rw (e, map_read) refl)
 
   -- a source's first place goes to the first, and no other does
   pub next_moves : (n : ℕ) (cs : List ℕ) (p : ℕ) → eqb (g p) 0 ≡ eqb p 0 → Moves R w g cs p → next_of (with_stride R w) (g n) cs (g p) ≡ map_read g (next_of R n cs p)

@@ -1,4 +1,5 @@
 -- Where no `e` or `E` is followed by a sign, every token is the one of document 01's own rule for numbers. Assumes nothing.
+use Rattle.std.specs.Prelude.{Err, Ok}
 use Prim.Native.Nat.{ℕ, zero, suc, ◌+◌}
 use mathlib.Core.Path.{◌≡◌, refl, sym, ap, ◌∙◌}
 use mathlib.Core.List.{List, [], ◌∷◌}
@@ -24,10 +25,8 @@ use Rattle.readers.specs.declared.reading.Reading.{Reading}
 use Rattle.templates.proofs.Landing.{deep_of, with_deep}
 use Rattle.templates.specs.Body.{go_on, template_body, template_of, token_of}
 use Rattle.text.specs.Utf8.{rest}
-use Rattle.token.specs.Reads.{got_of}
+use Rattle.token.specs.Reads.{got_of, Read, number_in}
 use Rattle.token.specs.declared.kind.Kind.TheVariants.{Comment, Number}
-use Rattle.token.specs.declared.read.Read.{Read}
-use Rattle.token.specs.declared.read.Read.TheVariants.{Got, Refused}
 
 -- what stands after a part that takes a sign is none
 abbrev Calm : Part → List ℕ → Type 0
@@ -112,8 +111,8 @@ module _ (R : Rules) where
       (λ h. past (byte_of R.stride a)) (λ h. past (str_of R.stride true a)) (λ h. refl) (λ k e q. rw q) (λ q. q) refl (number_old R.stride R.exponents v a cs p n) refl (λ h. d) refl
 
   on_old : (a : ℕ) (r r' : Read) (go go' : ℕ → Read) → r' ≡ r → ((t : ℕ) → go' t ≡ go t) → go_on a r' go' ≡ go_on a r go
-  on_old a (Got k) r' go go' e g = rw e (g k.span.end)
-  on_old a (Refused k) r' go go' e g = rw e (split (eqb k.number 19) (λ i. rw (i, go_on) refl) (λ i. rw (i, go_on) (g k.reached)))
+  on_old a (Ok k) r' go go' e g = rw e (g k.span.end)
+  on_old a (Err k) r' go go' e g = rw e (split (eqb (number_in k) 19) (λ i. rw (i, go_on) refl) (λ i. rw (i, go_on) (g k.reached)))
 
   module _ (next next' : List ℕ → ℕ → Read) (h : (cs : List ℕ) (p : ℕ) → none_signed cs ≡ true → next' cs p ≡ next cs p) (a : ℕ) where
     body_old : (t : ℕ) (cs : List ℕ) (p l : ℕ) → none_signed cs ≡ true → template_body Plain next' a t cs p l ≡ template_body R next a t cs p l
@@ -147,8 +146,8 @@ module _ (R : Rules) where
   next_old m cs p n = split (both (eqb p 0) (is_shebang cs)) (λ e. rw e (bang_same R Plain refl cs p)) (λ e. rw e (ap (close_span m) (token_old 64 cs p n)))
 
   each_old : (r : Read) (go go' : ℕ → Tokens) → ((t : ℕ) → go' t ≡ go t) → each_of r go' ≡ each_of r go
-  each_old (Refused r) go go' g = refl
-  each_old (Got k) go go' g = ap (more k) (g k.span.end)
+  each_old (Err r) go go' g = refl
+  each_old (Ok k) go go' g = ap (more k) (g k.span.end)
 
   tokens_old : (m t : ℕ) (cs : List ℕ) (p : ℕ) → none_signed cs ≡ true → tokens_of Plain m t cs p ≡ tokens_of R m t cs p
   unfolding tokens_of

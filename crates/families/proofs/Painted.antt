@@ -19,9 +19,8 @@ use Rattle.readers.specs.Readers.{Closing, closed_by, comment_end, comment_of, c
 use Rattle.readers.specs.Rules.{Rules}
 use Rattle.readers.specs.Scan.{Act, Stop, on, scan}
 use Rattle.templates.specs.Body.{template_body, template_of, template_turn, token_of}
-use Rattle.token.specs.Reads.{got_of}
+use Rattle.token.specs.Reads.{got_of, Read}
 use Rattle.token.specs.declared.kind.Kind.TheVariants.{Comment, MultilineComment, Template}
-use Rattle.token.specs.declared.read.Read.{Read}
 
 -- near scalars after it and at least as many x as there were scalars fit where the inside did
 pub near_fits : (n : ℕ) (shape : Shape) (mid back : List ℕ) (j : ℕ) (y : List ℕ) → ShapeFits n shape mid back → length mid ≤ j → Near back y → ShapeFits n shape (xs j) y

@@ -1,4 +1,6 @@
 -- Two runs side by side: the rule that reads a token, and a scalar of a template's body, decided alike. Assumes nothing.
+use Rattle.std.specs.Prelude.{None, Option, Some}
+use Rattle.token.specs.declared.reason.Reason.TheVariants.{UnexpectedChar}
 use Prim.Native.Nat.{ℕ, ◌+◌}
 use mathlib.Core.Path.{◌≡◌, refl, ap}
 use mathlib.Core.List.{List, [], ◌∷◌}
@@ -11,18 +13,16 @@ use Rattle.classes.specs.Digits.{is_digit}
 use Rattle.laws.proofs.Cases.{both_inv, split}
 use Rattle.laws.specs.Bools.{both, pick}
 use Rattle.lexer.specs.Next.{shebang_of}
-use Rattle.operators.specs.Operators.{operator_of}
+use Rattle.operators.specs.Operators.{operator, operator_of}
 use Rattle.operators.specs.declared.Operator.{Operator}
-use Rattle.operators.specs.declared.Operator.TheVariants.{Found, Nothing}
 use Rattle.readers.specs.Numbers.{number_lit_of}
 use Rattle.readers.specs.Readers.{byte_of, char_of, comment_of, line_of, starts_word, str_of, white_of, word_of}
 use Rattle.readers.specs.Rules.{Rules}
 use Rattle.readers.specs.Scan.{Stride}
 use Rattle.templates.specs.Body.{down, go_on, template_turn, up}
-use Rattle.token.specs.Reads.{got_of, refused_of}
+use Rattle.token.specs.Reads.{got_of, refused_of, Read}
 use Rattle.token.specs.declared.kind.Kind.{Kind}
 use Rattle.token.specs.declared.kind.Kind.TheVariants.{Comment, Shebang, Template}
-use Rattle.token.specs.declared.read.Read.{Read}
 
 -- how a token is read that starts with the scalar v, twice: the cases that a relation of the two answers has to be shown for, each with its test
 module _ (R R' : Rules) (t t' : Deep) (v a a' : ℕ) (cs cs' : List ℕ) (p p' : ℕ) (P : Read → Read → Type 0) where
@@ -38,10 +38,10 @@ module _ (R R' : Rules) (t t' : Deep) (v a a' : ℕ) (cs cs' : List ℕ) (p p' :
       → (next_is 39 cs ≡ true → P (behind_one R (byte_of R.stride a) cs p) (behind_one R' (byte_of R'.stride a') cs' p'))
       → (both (eqb v 98) (next_is 34 cs) ≡ true → P (behind_one R (str_of R.stride true a) cs p) (behind_one R' (str_of R'.stride true a') cs' p'))
       → (eqb v 34 ≡ true → P (str_of R.stride false a cs p) (str_of R'.stride false a' cs' p'))
-      → ((k : Kind) (e : ℕ) → operator_of R.stride v cs p ≡ Found k e → P (got_of k a e) (other_of R' t' v a' cs' p'))
-      → (operator_of R.stride v cs p ≡ Nothing → operator_of R'.stride v cs' p' ≡ Nothing)
+      → ((k : Kind) (e : ℕ) → operator_of R.stride v cs p ≡ Some (operator k e) → P (got_of k a e) (other_of R' t' v a' cs' p'))
+      → (operator_of R.stride v cs p ≡ None → operator_of R'.stride v cs' p' ≡ None)
       → P (word_of R.stride R.continue v a cs p) (word_of R'.stride R'.continue v a' cs' p') → P (number_lit_of R.stride R.exponents v a cs p) (number_lit_of R'.stride R'.exponents v a' cs' p') → P (char_of R.stride a cs p) (char_of R'.stride a' cs' p')
-      → (eqb v 96 ≡ true → P (t a cs p) (t' a' cs' p')) → P (refused_of 18 a p p) (refused_of 18 a' p' p') → P (first_of R t v a cs p) (first_of R' t' v a' cs' p')
+      → (eqb v 96 ≡ true → P (t a cs p) (t' a' cs' p')) → P (refused_of UnexpectedChar a p p) (refused_of UnexpectedChar a' p' p') → P (first_of R t v a cs p) (first_of R' t' v a' cs' p')
   unfolding first_of other_of left_of
   first-both alike start white line comment byte bytes str op none word number char deep other =
       rw (alike 47, alike 42, alike 39, alike 34)
@@ -59,9 +59,9 @@ module _ (R R' : Rules) (t t' : Deep) (v a a' : ℕ) (cs cs' : List ℕ) (p p' :
           (pick_both (starts_word R v) (λ h. word)
           (pick_both (is_digit v) (λ h. number) (pick_both (eqb v 39) (λ h. char) (pick_both (eqb v 96) deep other))))
 
-      found : (o : Operator) → operator_of R.stride v cs p ≡ o → P (found_or o a (left_of R t v a cs p)) (other_of R' t' v a' cs' p')
-      found (Found k e) q = op k e q
-      found Nothing q = rw (none q) left
+      found : (o : Option Operator) → operator_of R.stride v cs p ≡ o → P (found_or o a (left_of R t v a cs p)) (other_of R' t' v a' cs' p')
+      found (Some o) q = op o.kind o.end q
+      found None q = rw (none q) left
 
 -- one scalar of a template's body, twice
 module _ (next next' : List ℕ → ℕ → Read) (a a' v : ℕ) (cs cs' : List ℕ) (p p' l : ℕ) (go go' : ℕ → ℕ → Read) (P : Read → Read → Type 0) where

@@ -1,4 +1,7 @@
 -- Reading refuses with 10 to 18, or with 19 from the token's start to after a backtick; never with 1 to 4, which are of a source or a place. Assumes nothing.
+use Rattle.std.specs.Prelude.{Err, Ok}
+use Rattle.token.specs.Reads.{Read}
+use Rattle.token.specs.Reads.{number_in}
 use Prim.Native.Nat.{ℕ, zero, suc, ◌+◌}
 use mathlib.Core.Path.{◌≡◌, refl, ap}
 use mathlib.Core.List.{List, [], ◌∷◌}
@@ -25,15 +28,13 @@ use Rattle.readers.specs.declared.reading.Reading.{Reading}
 use Rattle.templates.specs.Body.{go_on, template_body, template_of, token_of, too_deep}
 use Rattle.text.specs.Utf8.{rest}
 use Rattle.token.specs.declared.kind.Kind.TheVariants.{Comment, Shebang}
-use Rattle.token.specs.declared.read.Read.{Read}
-use Rattle.token.specs.declared.read.Read.TheVariants.{Got, Refused}
 use Rattle.token.specs.declared.read.Refusal.{Refusal}
 
 module _ (R : Rules) where
   -- an answer for the token at a, from the scalars cs at p on: accepted, or refused with such a number
   abbrev pub Refuses : ℕ → List ℕ → ℕ → Read → Type 0
-  Refuses a cs p (Got k) = Unit
-  Refuses a cs p (Refused r) = Numbered R a cs p r
+  Refuses a cs p (Ok k) = Unit
+  Refuses a cs p (Err r) = Numbered R a cs p r
 
   -- no reader but the template's refuses with 19, whatever stands there
   module _ (b : ℕ) (ds : List ℕ) (q : ℕ) where
@@ -80,18 +81,18 @@ module _ (R : Rules) where
   -- with one scalar more before
   further : (a v : ℕ) (cs : List ℕ) (p : ℕ) (r : Read) → Refuses a cs (p + R.stride v) r → Refuses a (v ∷ cs) p r
   unfolding place_after
-  further a v cs p (Got k) h = tt
-  further a v cs p (Refused r) (inl h) = inl h
-  further a v cs p (Refused r) (inr h) =
+  further a v cs p (Ok k) h = tt
+  further a v cs p (Err r) (inl h) = inl h
+  further a v cs p (Err r) (inr h) =
       let t = h.ticked in
       inr (record { number = h.number; start = h.start; end = h.end; ticked = record { front = v ∷ t.front; back = t.back; whole = ap (λ (x : List ℕ). v ∷ x) t.whole; ends = t.ends } })
 
   module _ (a : ℕ) (cs : List ℕ) (p : ℕ) where
     -- of a token inside, 19 goes out with another start, and no other refusal goes out
     on_numbered : (r : Read) (go : ℕ → Read) → Refuses p cs p r → ((t : ℕ) → Refuses a cs p (go t)) → Refuses a cs p (go_on a r go)
-    on_numbered (Got k) go h g = g k.span.end
-    on_numbered (Refused r) go (inl h) g = let w = within_inv 10 18 r.number h in rw (ne_eqb r.number 19 (λ e. omega arith), go_on) (g r.reached)
-    on_numbered (Refused r) go (inr h) g = rw (eq-eqb r.number 19 h.number, go_on) (inr (record { number = refl; start = refl; end = h.end; ticked = h.ticked }))
+    on_numbered (Ok k) go h g = g k.span.end
+    on_numbered (Err r) go (inl h) g = let w = within_inv 10 18 (number_in r) h in rw (ne_eqb (number_in r) 19 (λ e. omega arith), go_on) (g r.reached)
+    on_numbered (Err r) go (inr h) g = rw (eq-eqb (number_in r) 19 h.number, go_on) (inr (record { number = refl; start = refl; end = h.end; ticked = h.ticked }))
 
   module _ (next : List ℕ → ℕ → Read) (n : (cs : List ℕ) (p : ℕ) → Refuses p cs p (next cs p)) (a : ℕ) where
     body_numbered : (t : ℕ) (cs : List ℕ) (p l : ℕ) → Refuses a cs p (template_body R next a t cs p l)
@@ -116,8 +117,8 @@ module _ (R : Rules) where
   token_numbered (suc d) = with_numbered (template_of R (token_of R d)) (λ v cs p e. further p v cs p (template_body R (token_of R d) p 0 cs (p + R.stride v) 0) (body_numbered (token_of R d) (token_numbered d) p 0 cs (p + R.stride v) 0))
 
   close_numbered : (n : ℕ) (cs : List ℕ) (p : ℕ) (r : Read) → Refuses p cs p r → Refuses p cs p (close_span n r)
-  close_numbered n cs p (Got k) h = tt
-  close_numbered n cs p (Refused r) h = split (eqb r.number 12) (λ e. rw e (inl refl)) (λ e. rw e h)
+  close_numbered n cs p (Ok k) h = tt
+  close_numbered n cs p (Err r) h = split (eqb (number_in r) 12) (λ e. rw e (inl refl)) (λ e. rw e h)
 
   -- under any rules, in a source that ends at n
   pub next_refusals : (n : ℕ) (cs : List ℕ) (p : ℕ) → Refuses p cs p (next_of R n cs p)
@@ -128,16 +129,16 @@ module _ (R : Rules) where
       (λ e. rw e (close_numbered n cs p (token_of R 64 cs p) (token_numbered 64 cs p)))
 
 -- a token is refused with one of 10 to 18, or with 19 from its start to after a backtick, where reading stopped
-pub next_refusal : (g : Reading) (s : List ℕ) (at : ℕ) (r : Refusal) → next_at g s at ≡ Refused r → Numbered (rules_of g) at (rest s at) at r
+pub next_refusal : (g : Reading) (s : List ℕ) (at : ℕ) (r : Refusal) → next_at g s at ≡ Err r → Numbered (rules_of g) at (rest s at) at r
 unfolding next_at
 next_refusal g s at r e = rw e at (next_refusals (rules_of g) (length s) (rest s at) at)
 
 module _ (R : Rules) (n : ℕ) where
   each_numbered : (cs : List ℕ) (p : ℕ) (r : Read) (go : ℕ → Tokens) → Refuses R p cs p r → ((t : ℕ) → NumberedEnd (go t)) → NumberedEnd (each_of r go)
   unfolding NumberedEnd
-  each_numbered cs p (Got k) go h g = g k.span.end
-  each_numbered cs p (Refused r) go (inl h) g = let w = within_inv 10 18 r.number h in within_yes 10 19 r.number (omega arith) (omega arith)
-  each_numbered cs p (Refused r) go (inr h) g = rw h.number
+  each_numbered cs p (Ok k) go h g = g k.span.end
+  each_numbered cs p (Err r) go (inl h) g = let w = within_inv 10 18 (number_in r) h in within_yes 10 19 (number_in r) (omega arith) (omega arith)
+  each_numbered cs p (Err r) go (inr h) g = rw h.number
 
   tokens_numbered : (t : ℕ) (cs : List ℕ) (p : ℕ) → NumberedEnd (tokens_of R n t cs p)
   unfolding tokens_of NumberedEnd

@@ -1,4 +1,7 @@
 -- Every accepted token has no inside, or its scalars are an opening mark, an inside, a closing mark, and more. Assumes nothing.
+use Rattle.std.specs.Prelude.{Err, None, Ok, Option, Some}
+use Rattle.token.specs.Reads.{Read}
+use Rattle.token.specs.Reads.{number_in}
 use Prim.Native.Nat.{ℕ, zero, suc, ◌+◌}
 use mathlib.Core.Path.{◌≡◌, refl, sym, subst}
 use mathlib.Core.List.{List, [], ◌∷◌, ◌++◌}
@@ -15,9 +18,8 @@ use Rattle.laws.proofs.Cases.{both_inv, never, split}
 use Rattle.laws.specs.Bools.{both, pick}
 use Rattle.lexer.specs.Next.{close_span, is_shebang, next_of, shebang_of}
 use Rattle.numbers.specs.Kinds.{has_inside, number_of}
-use Rattle.operators.proofs.Ends.{by_length}
-use Rattle.operators.specs.Operators.{find_one, find_three, find_two, found_at, look_one, look_three, look_two, ones, operator_of, threes, twos}
-use Rattle.operators.specs.declared.Operator.TheVariants.{Found}
+use Rattle.operators.proofs.Ends.{by_length, found_kind}
+use Rattle.operators.specs.Operators.{find_one, find_three, find_two, found_at, look_one, look_three, look_two, ones, operator, operator_of, threes, twos}
 use Rattle.readers.specs.Numbers.{number_lit_of}
 use Rattle.readers.specs.Readers.{Bytes, Chars, Quoted, backslashed, body, broken, byte_answer, byte_of, byte_step, char_answer, char_of, char_step, closed_by, comment_end, comment_of, comment_step, control, escape, fresh, in_line, letters, line_of, run, run_step, shut, skips, slashed, str_answer, str_of, str_step, text, white_of, word_of}
 use Rattle.readers.specs.Rules.{Rules}
@@ -26,10 +28,6 @@ use Rattle.templates.proofs.Landing.{deep_of, with_deep}
 use Rattle.templates.specs.Body.{template_body, template_of, token_of}
 use Rattle.token.specs.declared.kind.Kind.{Kind}
 use Rattle.token.specs.declared.kind.Kind.TheVariants.{Comment, Ident, Shebang, Underscore}
-use Rattle.token.specs.declared.kind.Known.{Known}
-use Rattle.token.specs.declared.kind.Known.TheVariants.{Is, Unknown}
-use Rattle.token.specs.declared.read.Read.{Read}
-use Rattle.token.specs.declared.read.Read.TheVariants.{Got, Refused}
 use Rattle.token.specs.declared.read.Token.{Token}
 
 -- no operator has an inside
@@ -38,55 +36,51 @@ all_of f [] = true
 all_of f (x ∷ t) = both (f x) (all_of f t)
 
 module _ (a b c : ℕ) (k : Kind) where
-  one_plain : (t : List (ℕ × Kind)) → all_of (λ r. not (has_inside r.1)) t ≡ true → look_one t a ≡ Is k → not (has_inside k) ≡ true
+  one_plain : (t : List (ℕ × Kind)) → all_of (λ r. not (has_inside r.1)) t ≡ true → look_one t a ≡ Some k → not (has_inside k) ≡ true
   unfolding look_one all_of
   one_plain [] h = λ q. never (cc)
   one_plain (r ∷ t) h =
       let i = both_inv (not (has_inside r.1)) (all_of (λ r. not (has_inside r.1)) t) h in
       split (eqb a r.0) (λ e. rw e (λ q. let z : r.1 ≡ k = cc in subst (λ (x : Kind). not (has_inside x) ≡ true) z i.0)) (λ e. rw e (one_plain t i.1))
 
-  two_plain : (t : List (ℕ × ℕ × Kind)) → all_of (λ r. not (has_inside r.2)) t ≡ true → look_two t a b ≡ Is k → not (has_inside k) ≡ true
+  two_plain : (t : List (ℕ × ℕ × Kind)) → all_of (λ r. not (has_inside r.2)) t ≡ true → look_two t a b ≡ Some k → not (has_inside k) ≡ true
   unfolding look_two all_of
   two_plain [] h = λ q. never (cc)
   two_plain (r ∷ t) h =
       let i = both_inv (not (has_inside r.2)) (all_of (λ r. not (has_inside r.2)) t) h in
       split (both (eqb a r.0) (eqb b r.1)) (λ e. rw e (λ q. let z : r.2 ≡ k = cc in subst (λ (x : Kind). not (has_inside x) ≡ true) z i.0)) (λ e. rw e (two_plain t i.1))
 
-  three_plain : (t : List (ℕ × ℕ × ℕ × Kind)) → all_of (λ r. not (has_inside r.3)) t ≡ true → look_three t a b c ≡ Is k → not (has_inside k) ≡ true
+  three_plain : (t : List (ℕ × ℕ × ℕ × Kind)) → all_of (λ r. not (has_inside r.3)) t ≡ true → look_three t a b c ≡ Some k → not (has_inside k) ≡ true
   unfolding look_three all_of
   three_plain [] h = λ q. never (cc)
   three_plain (r ∷ t) h =
       let i = both_inv (not (has_inside r.3)) (all_of (λ r. not (has_inside r.3)) t) h in
       split (both (eqb a r.0) (both (eqb b r.1) (eqb c r.2))) (λ e. rw e (λ q. let z : r.3 ≡ k = cc in subst (λ (x : Kind). not (has_inside x) ≡ true) z i.0)) (λ e. rw e (three_plain t i.1))
 
-found_kind : (m : Known) (p : ℕ) (k : Kind) (e : ℕ) → found_at m p ≡ Found k e → m ≡ Is k
-found_kind (Is j) p k e h = cc
-found_kind Unknown p k e h = never (cc)
-
 module _ (R : Rules) where
-  pub op_plain : (v : ℕ) (cs : List ℕ) (p : ℕ) (k : Kind) (e : ℕ) → operator_of R.stride v cs p ≡ Found k e → has_inside k ≡ false
+  pub op_plain : (v : ℕ) (cs : List ℕ) (p : ℕ) (k : Kind) (e : ℕ) → operator_of R.stride v cs p ≡ Some (operator k e) → has_inside k ≡ false
   unfolding operator_of find_one find_two find_three all_of ones twos threes number_of
   op_plain v cs p k e h =
       by_length R (find_three R.stride v cs p) (find_two R.stride v cs p) (find_one v p) k e h (three cs) (two cs)
       (λ q. not-true (has_inside k) (one_plain v 0 0 k ones refl (found_kind (look_one ones v) p k e q)))
     where
-      two : (cs : List ℕ) → find_two R.stride v cs p ≡ Found k e → has_inside k ≡ false
+      two : (cs : List ℕ) → find_two R.stride v cs p ≡ Some (operator k e) → has_inside k ≡ false
       two [] q = never (cc)
       two (w ∷ cs) q = not-true (has_inside k) (two_plain v w 0 k twos refl (found_kind (look_two twos v w) (p + R.stride w) k e q))
 
-      three : (cs : List ℕ) → find_three R.stride v cs p ≡ Found k e → has_inside k ≡ false
+      three : (cs : List ℕ) → find_three R.stride v cs p ≡ Some (operator k e) → has_inside k ≡ false
       three [] q = never (cc)
       three (w ∷ []) q = never (cc)
       three (w ∷ (x ∷ cs)) q = not-true (has_inside k) (three_plain v w x k threes refl (found_kind (look_three threes v w x) (p + R.stride w + R.stride x) k e q))
 
   -- answers without an inside
   abbrev Plain : Read → Type 0
-  Plain (Got k) = has_inside k.kind ≡ false
-  Plain (Refused r) = Unit
+  Plain (Ok k) = has_inside k.kind ≡ false
+  Plain (Err r) = Unit
 
   plain_shaped : (cs : List ℕ) (p : ℕ) (r : Read) → Plain r → Shaped R cs p r
-  plain_shaped cs p (Got k) h = inl h
-  plain_shaped cs p (Refused r) h = tt
+  plain_shaped cs p (Ok k) h = inl h
+  plain_shaped cs p (Err r) h = tt
 
   byte_plain : (a : ℕ) (st : Bytes) (l p : ℕ) (h : How) → Plain (byte_answer a st l p h)
   unfolding number_of
@@ -163,8 +157,8 @@ module _ (R : Rules) where
 
   template_shaped : (a : ℕ) (cs : List ℕ) (r : Read) → BodyShape R R.skip a cs (a + R.stride 96) r → Shaped R (96 ∷ cs) a r
   unfolding place_after
-  template_shaped a cs (Got k) h = inr (subst (λ (x : Token). Framed R (96 ∷ cs) a x) (sym h.1) (opened R (template_shape h.0) cs a k.span.end h.2))
-  template_shaped a cs (Refused r) h = tt
+  template_shaped a cs (Ok k) h = inr (subst (λ (x : Token). Framed R (96 ∷ cs) a x) (sym h.1) (opened R (template_shape h.0) cs a k.span.end h.2))
+  template_shaped a cs (Err r) h = tt
 
   first_shaped : (t : Deep) → ((a : ℕ) (cs : List ℕ) → Shaped R (96 ∷ cs) a (t a cs (a + R.stride 96))) → (v a : ℕ) (cs : List ℕ) → Shaped R (v ∷ cs) a (first_of R t v a cs (a + R.stride v))
   unfolding white_of byte_of word_of number_lit_of char_of number_of place_after
@@ -189,8 +183,8 @@ module _ (R : Rules) where
   token_shaped d (v ∷ cs) p = rw (with_deep R d (v ∷ cs) p) (first_shaped (deep_of R d) (deep_shaped d) v p cs)
 
   close_shaped : (n : ℕ) (cs : List ℕ) (p : ℕ) (r : Read) → Shaped R cs p r → Shaped R cs p (close_span n r)
-  close_shaped n cs p (Got k) h = h
-  close_shaped n cs p (Refused r) h = split (eqb r.number 12) (λ e. rw (e, Shaped) tt) (λ e. rw (e, Shaped) tt)
+  close_shaped n cs p (Ok k) h = h
+  close_shaped n cs p (Err r) h = split (eqb (number_in r) 12) (λ e. rw (e, Shaped) tt) (λ e. rw (e, Shaped) tt)
 
   pub next_shaped : (n : ℕ) (cs : List ℕ) (p : ℕ) → Shaped R cs p (next_of R n cs p)
   unfolding next_of line_of number_of

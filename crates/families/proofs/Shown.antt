@@ -1,4 +1,5 @@
 -- An accepted token with an inside, its inside painted and other scalars after it: the same kind up to the escape mark, the same span. Assumes nothing.
+use Rattle.std.specs.Prelude.{Ok}
 use Prim.Native.Nat.{ℕ, zero, suc, ◌+◌, ◌≤◌}
 use mathlib.Core.Path.{◌≡◌, refl, sym, ap, ◌∙◌}
 use mathlib.Core.List.{List, [], ◌∷◌}
@@ -17,7 +18,6 @@ use Rattle.readers.specs.Rules.{Rules}
 use Rattle.readers.specs.Scan.{Stride}
 use Rattle.templates.specs.Body.{token_of}
 use Rattle.token.specs.Reads.{got_of}
-use Rattle.token.specs.declared.read.Read.TheVariants.{Got}
 use Rattle.token.specs.declared.read.Token.{Token}
 
 plain_form : (shape : Shape) → shape_kind (plain_shape shape) ≡ plain_kind (shape_kind shape)
@@ -48,8 +48,8 @@ module _ (R : Rules) where
   after_long sane (v ∷ f) p = let a = after_long sane f (p + R.stride v) in let s = sane.steps v in omega arith
 
   -- where an x takes one place
-  module _ (sane : Sane R) (one : R.stride 120 ≡ 1) (d : ℕ) (cs : List ℕ) (p : ℕ) (k : Token) (e : token_of R (suc d) cs p ≡ Got k) (f : Framed R cs p k) where
-    pub token_shown : (y : List ℕ) → Near f.back y → token_of R (suc d) (painted R f.shape f.mid y) p ≡ Got (record { kind = plain_kind k.kind; span = k.span })
+  module _ (sane : Sane R) (one : R.stride 120 ≡ 1) (d : ℕ) (cs : List ℕ) (p : ℕ) (k : Token) (e : token_of R (suc d) cs p ≡ Ok k) (f : Framed R cs p k) where
+    pub token_shown : (y : List ℕ) → Near f.back y → token_of R (suc d) (painted R f.shape f.mid y) p ≡ Ok (record { kind = plain_kind k.kind; span = k.span })
     token_shown y h =
         let j = place_after R.stride f.mid 0 in
         let q = place_after R.stride (mark_before f.shape) p in

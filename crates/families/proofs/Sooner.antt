@@ -1,4 +1,5 @@
 -- The fewer scalars are passed over after `/*`, the sooner a comment ends, and what is a comment stays one. Assumes nothing.
+use Rattle.std.specs.Prelude.{Err, Ok}
 use Prim.Native.Nat.{ℕ, zero, suc, ◌+◌, ◌≤◌, ◌<◌}
 use mathlib.Core.Path.{◌≡◌, refl, sym, ap, ◌∙◌}
 use mathlib.Core.List.{List, [], ◌∷◌}
@@ -21,10 +22,8 @@ use Rattle.readers.specs.Scan.{Stride, before, behind, on, scan}
 use Rattle.templates.proofs.Landing.{deep_of, with_deep}
 use Rattle.templates.specs.Body.{go_on, template_body, template_of, token_of}
 use Rattle.text.specs.Utf8.{rest}
-use Rattle.token.specs.Reads.{got_of, span_of}
+use Rattle.token.specs.Reads.{got_of, span_of, Read, number_in}
 use Rattle.token.specs.declared.kind.Kind.TheVariants.{Comment, MultilineComment}
-use Rattle.token.specs.declared.read.Read.{Read}
-use Rattle.token.specs.declared.read.Read.TheVariants.{Got, Refused}
 use Rattle.token.specs.declared.read.Token.{Token}
 
 -- the state a has gone at least as far towards a close as the state b
@@ -122,8 +121,8 @@ record Twin (r r' : Read) : Type 0 where
   no_later : end' ≤ end
 
 abbrev NoComment : Read → Type 0
-NoComment (Got k) = (c : Bool) → k.kind ≡ MultilineComment c → ⊥
-NoComment (Refused r) = Unit
+NoComment (Ok k) = (c : Bool) → k.kind ≡ MultilineComment c → ⊥
+NoComment (Err r) = Unit
 
 -- how the two answers stand to each other: the same, or both a comment, or neither
 abbrev Beside : Read → Read → Type 0
@@ -132,8 +131,8 @@ Beside r r' = (r' ≡ r) ⊎ (Twin r r' ⊎ (NoComment r × NoComment r'))
 -- a template is no comment, whatever reads the tokens inside it
 module _ (R : Rules) where
   on_plain : (a : ℕ) (r : Read) (go : ℕ → Read) → ((t : ℕ) → NoComment (go t)) → NoComment (go_on a r go)
-  on_plain a (Got k) go g = g k.span.end
-  on_plain a (Refused r) go g = split (eqb r.number 19) (λ e. rw (e, NoComment) tt) (λ e. rw (e, NoComment) (g r.reached))
+  on_plain a (Ok k) go g = g k.span.end
+  on_plain a (Err r) go g = split (eqb (number_in r) 19) (λ e. rw (e, NoComment) tt) (λ e. rw (e, NoComment) (g r.reached))
 
   body_plain : (next : List ℕ → ℕ → Read) (a t : ℕ) (cs : List ℕ) (p l : ℕ) → NoComment (template_body R next a t cs p l)
   unfolding template_body
@@ -179,8 +178,8 @@ module _ (R : Rules) (n : ℕ) (few : n ≤ R.skip) where
       (first_beside (deep_of R d) (deep_of Few d) (λ a ds q. (deep_plain R d a ds q, deep_plain Few d a ds q)) v p cs (p + R.stride v))
 
   close_plain : (m : ℕ) (r : Read) → NoComment r → NoComment (close_span m r)
-  close_plain m (Got k) h = h
-  close_plain m (Refused r) h = split (eqb r.number 12) (λ e. rw (e, NoComment) tt) (λ e. rw (e, NoComment) tt)
+  close_plain m (Ok k) h = h
+  close_plain m (Err r) h = split (eqb (number_in r) 12) (λ e. rw (e, NoComment) tt) (λ e. rw (e, NoComment) tt)
 
   close_beside : (m : ℕ) (r r' : Read) → Beside r r' → Beside (close_span m r) (close_span m r')
   close_beside m r r' (inl h) = inl (ap (close_span m) h)
@@ -198,7 +197,7 @@ module _ (R : Rules) (n : ℕ) (few : n ≤ R.skip) where
 pub record AlsoComment (r : Read) (k : Token) (Order : ℕ → ℕ → Type 0) : Type 0 where
   pub token : Token
   pub closed : Bool
-  pub got : r ≡ Got token
+  pub got : r ≡ Ok token
   pub kind : token.kind ≡ MultilineComment closed
   pub start : token.span.start ≡ k.span.start
   pub end : Order token.span.end k.span.end
@@ -209,14 +208,14 @@ Sooner r k = AlsoComment r k (λ e e'. e ≤ e')
 abbrev pub Later : Read → Token → Type 0
 Later r k = AlsoComment r k (λ e e'. e' ≤ e)
 
-beside_sooner : (r r' : Read) → Beside r r' → (k : Token) (c : Bool) → r ≡ Got k → k.kind ≡ MultilineComment c → Sooner r' k
+beside_sooner : (r r' : Read) → Beside r r' → (k : Token) (c : Bool) → r ≡ Ok k → k.kind ≡ MultilineComment c → Sooner r' k
 beside_sooner r r' (inl h) k c e i = record { token = k; closed = c; got = h ∙ e; kind = i; start = refl; end = omega arith }
 beside_sooner r r' (inr (inl h)) k c e i =
     let z : k ≡ record { kind = MultilineComment h.closed; span = span_of h.start h.end } = let y = h.is in cc in
     record { token = record { kind = MultilineComment h.closed'; span = span_of h.start h.end' }; closed = h.closed'; got = h.is'; kind = refl; start = rw z; end = rw z h.no_later }
 beside_sooner r r' (inr (inr h)) k c e i = absurd ((rw e at h.0) c i)
 
-beside_later : (r r' : Read) → Beside r r' → (k : Token) (c : Bool) → r' ≡ Got k → k.kind ≡ MultilineComment c → Later r k
+beside_later : (r r' : Read) → Beside r r' → (k : Token) (c : Bool) → r' ≡ Ok k → k.kind ≡ MultilineComment c → Later r k
 beside_later r r' (inl h) k c e i = record { token = k; closed = c; got = sym h ∙ e; kind = i; start = refl; end = omega arith }
 beside_later r r' (inr (inl h)) k c e i =
     let z : k ≡ record { kind = MultilineComment h.closed'; span = span_of h.start h.end' } = let y = h.is' in cc in
@@ -224,11 +223,11 @@ beside_later r r' (inr (inl h)) k c e i =
 beside_later r r' (inr (inr h)) k c e i = absurd ((rw e at h.1) c i)
 
 -- what rune reads as a comment is one where the first close ends it, from the same place on and ending no later
-pub first_ends_sooner : (s : List ℕ) (at : ℕ) (k : Token) (c : Bool) → next_at rune s at ≡ Got k → k.kind ≡ MultilineComment c → Sooner (next_at first_close s at) k
+pub first_ends_sooner : (s : List ℕ) (at : ℕ) (k : Token) (c : Bool) → next_at rune s at ≡ Ok k → k.kind ≡ MultilineComment c → Sooner (next_at first_close s at) k
 unfolding next_at
 first_ends_sooner s at = beside_sooner (next_at rune s at) (next_at first_close s at) (next_beside (rules_of rune) 0 (omega arith) (length s) (rest s at) at)
 
 -- and the other way round
-pub rune_ends_later : (s : List ℕ) (at : ℕ) (k : Token) (c : Bool) → next_at first_close s at ≡ Got k → k.kind ≡ MultilineComment c → Later (next_at rune s at) k
+pub rune_ends_later : (s : List ℕ) (at : ℕ) (k : Token) (c : Bool) → next_at first_close s at ≡ Ok k → k.kind ≡ MultilineComment c → Later (next_at rune s at) k
 unfolding next_at
 rune_ends_later s at = beside_later (next_at rune s at) (next_at first_close s at) (next_beside (rules_of rune) 0 (omega arith) (length s) (rest s at) at)

@@ -1,4 +1,5 @@
 -- Document 01's starred examples as one table that the definitions compute. Assumes nothing.
+use Rattle.token.specs.Reads.{number_in}
 use Prim.Native.Nat.{ℕ}
 use mathlib.Core.Path.{◌≡◌, refl}
 use mathlib.Core.List.{List, [], ◌∷◌, map}
@@ -24,7 +25,7 @@ pub data Answer : Type 0 where
 
 unfoldable pub shown_of : Tokens → Answer
 shown_of fin = all_read
-shown_of (halt r) = refuses r.number r.span.start r.span.end
+shown_of (halt r) = refuses (number_in r) r.span.start r.span.end
 shown_of (more k ts) = reads (number_of k.kind) k.span.start k.span.end (shown_of ts)
 
 abbrev pub answer_by : Reading → List ℕ → Answer

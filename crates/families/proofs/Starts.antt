@@ -1,4 +1,7 @@
 -- An accepted token starts where reading began. Assumes nothing.
+use Rattle.std.specs.Prelude.{Err, Ok}
+use Rattle.token.specs.Reads.{Read}
+use Rattle.token.specs.Reads.{number_in}
 use Prim.Native.Nat.{ℕ, zero, suc, ◌+◌}
 use mathlib.Core.Path.{◌≡◌, refl}
 use mathlib.Core.List.{List, [], ◌∷◌}
@@ -17,13 +20,11 @@ use Rattle.readers.specs.Scan.{How, ended, full, scan, short}
 use Rattle.templates.proofs.Landing.{deep_of, with_deep}
 use Rattle.templates.specs.Body.{go_on, template_body, template_of, token_of}
 use Rattle.token.specs.declared.kind.Kind.TheVariants.{Comment, Shebang}
-use Rattle.token.specs.declared.read.Read.{Read}
-use Rattle.token.specs.declared.read.Read.TheVariants.{Got, Refused}
 use Rattle.token.specs.declared.read.Token.{Token}
 
 abbrev pub Starts : Read → ℕ → Type 0
-Starts (Got k) a = k.span.start ≡ a
-Starts (Refused r) a = Unit
+Starts (Ok k) a = k.span.start ≡ a
+Starts (Err r) a = Unit
 
 module _ (R : Rules) where
   abbrev StartsAt : (List ℕ → ℕ → Read) → ℕ → Type 0
@@ -68,8 +69,8 @@ module _ (R : Rules) where
       (let o = scan char_step R.stride (letters true false) p cs p in char_starts a o.state o.last o.place) (d a cs p) tt
 
   on_starts : (a : ℕ) (r : Read) (go : ℕ → Read) → ((t : ℕ) → Starts (go t) a) → Starts (go_on a r go) a
-  on_starts a (Got k) go g = g k.span.end
-  on_starts a (Refused r) go g = split (eqb r.number 19) (λ e. rw (e, Starts) tt) (λ e. rw (e, Starts) (g r.reached))
+  on_starts a (Ok k) go g = g k.span.end
+  on_starts a (Err r) go g = split (eqb (number_in r) 19) (λ e. rw (e, Starts) tt) (λ e. rw (e, Starts) (g r.reached))
 
   module _ (next : List ℕ → ℕ → Read) (a : ℕ) where
     body_starts : (t : ℕ) (cs : List ℕ) (p l : ℕ) → Starts (template_body R next a t cs p l) a
@@ -91,8 +92,8 @@ module _ (R : Rules) where
   token_starts d (v ∷ cs) p = rw (with_deep R d (v ∷ cs) p) (first_starts (deep_of R d) (deep_starts d) v p cs (p + R.stride v))
 
   close_starts : (n a : ℕ) (r : Read) → Starts r a → Starts (close_span n r) a
-  close_starts n a (Got k) h = h
-  close_starts n a (Refused r) h = split (eqb r.number 12) (λ e. rw e tt) (λ e. rw e tt)
+  close_starts n a (Ok k) h = h
+  close_starts n a (Err r) h = split (eqb (number_in r) 12) (λ e. rw e tt) (λ e. rw e tt)
 
   pub next_starts : (n : ℕ) (cs : List ℕ) (p : ℕ) → Starts (next_of R n cs p) p
   unfolding next_of line_of
@@ -102,8 +103,8 @@ module _ (R : Rules) where
       (λ e. rw e (close_starts n p (token_of R 64 cs p) (token_starts 64 cs p)))
 
   -- the same, of an answer
-  pub got_start : (d : ℕ) (cs : List ℕ) (p : ℕ) (k : Token) → token_of R d cs p ≡ Got k → k.span.start ≡ p
+  pub got_start : (d : ℕ) (cs : List ℕ) (p : ℕ) (k : Token) → token_of R d cs p ≡ Ok k → k.span.start ≡ p
   got_start d cs p k e = rw e at (token_starts d cs p)
 
-  pub next_start : (n : ℕ) (cs : List ℕ) (p : ℕ) (k : Token) → next_of R n cs p ≡ Got k → k.span.start ≡ p
+  pub next_start : (n : ℕ) (cs : List ℕ) (p : ℕ) (k : Token) → next_of R n cs p ≡ Ok k → k.span.start ≡ p
   next_start n cs p k e = rw e at (next_starts n cs p)

@@ -1,4 +1,5 @@
 -- The token list at a place of a source: it ends, halts, or goes on after a token. Assumes nothing.
+use Rattle.std.specs.Prelude.{Err, Ok}
 use Prim.Native.Nat.{ℕ, ◌+◌, ◌≤◌, ◌<◌}
 use mathlib.Core.Path.{◌≡◌, refl, sym, ap, ◌∙◌, subst}
 use mathlib.Core.List.{List, [], ◌∷◌}
@@ -18,10 +19,8 @@ use Rattle.readers.specs.declared.reading.Reading.{Reading}
 use Rattle.templates.specs.Body.{token_of}
 use Rattle.text.proofs.Decode.{Step, after_step, by_step, rest_tail, width_pos}
 use Rattle.text.specs.Utf8.{after, rest, width}
-use Rattle.token.specs.Reads.{got_of, reached_of}
+use Rattle.token.specs.Reads.{got_of, reached_of, Read}
 use Rattle.token.specs.declared.kind.Kind.TheVariants.{Eof}
-use Rattle.token.specs.declared.read.Read.{Read}
-use Rattle.token.specs.declared.read.Read.TheVariants.{Got, Refused}
 use Rattle.token.specs.declared.read.Refusal.{Refusal}
 use Rattle.token.specs.declared.read.Token.{Token}
 
@@ -59,15 +58,15 @@ module _ (g : Reading) (s : List ℕ) (p : ℕ) (r : Read) (er : r ≡ next_at g
   pub reached_within : p ≤ length s → reached_of r ≤ length s
   reached_within h = by_step s p (λ z. rw (er ∙ next_end g s p z) h) (λ v n t. lands_room g s (rest s n) n (reached_of r) refl t.room (passes v n t))
 
-  pub refused_past : (k : Refusal) → r ≡ Refused k → p < reached_of r
+  pub refused_past : (k : Refusal) → r ≡ Err k → p < reached_of r
   refused_past k e =
       by_step s p (λ z. never (let y = er ∙ next_end g s p z in cc))
       (λ v n t. let b = lands_le (rules_of g) (rest s n) n (reached_of r) (passes v n t) in let w = t.past in omega arith)
 
-  pub tokens_halt : (k : Refusal) → r ≡ Refused k → tokens_at (rules_of g) s p ≡ halt k
+  pub tokens_halt : (k : Refusal) → r ≡ Err k → tokens_at (rules_of g) s p ≡ halt k
   tokens_halt k e = by_step s p (λ z. never (let y = er ∙ next_end g s p z in cc)) (λ v n t. turn v n t ∙ rw e)
 
-  module _ (k : Token) (e : r ≡ Got k) where
+  module _ (k : Token) (e : r ≡ Ok k) where
     reached : (x : ℕ) → reached_of r ≡ x → k.span.end ≡ x
     reached x h = sym (ap reached_of e) ∙ h
 
@@ -105,10 +104,10 @@ place_on g s [] p r e k = subst (λ (x : ℕ). after (rest s x) x ≡ after [] p
 place_on g s (v ∷ cs) p r e (inl k) = subst (λ (x : ℕ). after (rest s x) x ≡ after (v ∷ cs) p) k (rw (← e))
 place_on g s (v ∷ cs) p r e (inr k) = place_on g s cs (p + width v) r (rest_tail s p v cs e) k
 
-pub tokens_place : (g : Reading) (s : List ℕ) (p : ℕ) (k : Token) → next_at g s p ≡ Got k → (k.span.end ≡ p → ⊥) → after (rest s k.span.end) k.span.end ≡ after (rest s p) p
+pub tokens_place : (g : Reading) (s : List ℕ) (p : ℕ) (k : Token) → next_at g s p ≡ Ok k → (k.span.end ≡ p → ⊥) → after (rest s k.span.end) k.span.end ≡ after (rest s p) p
 tokens_place g s p k e h =
     by_step s p (λ z. absurd (h (at_end g s p (next_at g s p) refl k e z)))
     (λ v n t. place_on g s (rest s n) n k.span.end refl (lands_end g s p (next_at g s p) refl k e v n t) ∙ after_step s p v n t)
 
-pub tokens_past_step : (g : Reading) (s : List ℕ) (p : ℕ) (k : Token) → next_at g s p ≡ Got k → (v n : ℕ) → Step s p v n → p < k.span.end
+pub tokens_past_step : (g : Reading) (s : List ℕ) (p : ℕ) (k : Token) → next_at g s p ≡ Ok k → (v n : ℕ) → Step s p v n → p < k.span.end
 tokens_past_step g s p k e v n t = let b = lands_le (rules_of g) (rest s n) n k.span.end (lands_end g s p (next_at g s p) refl k e v n t) in let w = t.past in omega arith

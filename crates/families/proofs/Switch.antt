@@ -1,4 +1,5 @@
 -- A list in the mode in which the first close ends a comment that is safe to switch is rune's list too. Assumes nothing.
+use Rattle.std.specs.Prelude.{Err, Ok}
 use Prim.Native.Nat.{ℕ, zero, suc, ◌+◌, ◌≤◌, ◌<◌}
 use mathlib.Core.Path.{◌≡◌, refl, sym, ap, ◌∙◌}
 use mathlib.Core.List.{List, [], ◌∷◌, map}
@@ -30,10 +31,8 @@ use Rattle.templates.proofs.Landing.{NextLands, body_consumes, body_lands, deep_
 use Rattle.templates.specs.Body.{down, go_on, template_body, template_of, template_turn, token_of, up}
 use Rattle.text.proofs.Decode.{by_step, width_pos}
 use Rattle.text.specs.Utf8.{decode, first, from, lead_of, rest, width}
-use Rattle.token.specs.Reads.{point_of, reached_of}
+use Rattle.token.specs.Reads.{point_of, reached_of, Read, number_in}
 use Rattle.token.specs.declared.kind.Kind.TheVariants.{Comment, Eof}
-use Rattle.token.specs.declared.read.Read.{Read}
-use Rattle.token.specs.declared.read.Read.TheVariants.{Got, Refused}
 use Rattle.token.specs.declared.read.Refusal.{Refusal}
 use Rattle.token.specs.declared.read.Token.{Token}
 
@@ -64,8 +63,8 @@ inside_same (u ∷ (v ∷ (x ∷ (y ∷ cs)))) p h =
 
 -- what a token or a refusal has to keep: cs are the scalars from its start p on
 abbrev Steady : List ℕ → ℕ → Read → Type 0
-Steady cs p (Got k) = steady (number_of k.kind) (up_to cs p k.span.end) ≡ true
-Steady cs p (Refused r) = not (eqb r.number 19) ≡ true
+Steady cs p (Ok k) = steady (number_of k.kind) (up_to cs p k.span.end) ≡ true
+Steady cs p (Err r) = not (eqb (number_in r) 19) ≡ true
 
 comment_same : (v w : ℕ) (cs : List ℕ) (p : ℕ) → let q = p + width v + width w in
     Steady (v ∷ (w ∷ cs)) p (comment_of width 0 p cs q) → comment_of width 2 p cs q ≡ comment_of width 0 p cs q
@@ -87,13 +86,13 @@ comment_same v w cs p = by_close (comment_end width 0 cs q).closed refl
 
 -- what a template's reader answers: a template, or 19
 abbrev pub Templated : Read → Type 0
-Templated (Got k) = number_of k.kind ≡ 16
-Templated (Refused r) = r.number ≡ 19
+Templated (Ok k) = number_of k.kind ≡ 16
+Templated (Err r) = number_in r ≡ 19
 
 module _ (R : Rules) (next : List ℕ → ℕ → Read) (a : ℕ) where
   on_templated : (r : Read) (go : ℕ → Read) → ((t : ℕ) → Templated (go t)) → Templated (go_on a r go)
-  on_templated (Got k) go g = g k.span.end
-  on_templated (Refused r) go g = split (eqb r.number 19) (λ e. rw (e, Templated) refl) (λ e. rw (e, Templated) (g r.reached))
+  on_templated (Ok k) go g = g k.span.end
+  on_templated (Err r) go g = split (eqb (number_in r) 19) (λ e. rw (e, Templated) refl) (λ e. rw (e, Templated) (g r.reached))
 
   pub body_templated : (t : ℕ) (cs : List ℕ) (p l : ℕ) → Templated (template_body R next a t cs p l)
   unfolding template_body number_of
@@ -106,15 +105,15 @@ module _ (R : Rules) (next : List ℕ → ℕ → Read) (a : ℕ) where
 
 -- a body without a backslash is read the same, whatever reads the tokens after one
 module _ (next next' : List ℕ → ℕ → Read) (lands : NextLands (rules_of first_close) next) (a : ℕ) (k : Token) where
-  turn_same : (v : ℕ) (cs : List ℕ) (p l : ℕ) (go go' : ℕ → ℕ → Read) → eqb v 92 ≡ false → ((m : ℕ) → go 0 m ≡ Got k → go' 0 m ≡ Got k)
-      → template_turn next a v cs p l go ≡ Got k → template_turn next' a v cs p l go' ≡ Got k
+  turn_same : (v : ℕ) (cs : List ℕ) (p l : ℕ) (go go' : ℕ → ℕ → Read) → eqb v 92 ≡ false → ((m : ℕ) → go 0 m ≡ Ok k → go' 0 m ≡ Ok k)
+      → template_turn next a v cs p l go ≡ Ok k → template_turn next' a v cs p l go' ≡ Ok k
   unfolding template_turn
   turn_same v cs p l go go' s g =
       split (eqb v 96) (λ h. split (eqb l 0) (λ i. rw (h, i, template_turn) (λ e. e)) (λ i. rw (h, i, template_turn) (g l)))
       (λ h. split (eqb v 123) (λ i. rw (h, i, template_turn) (g (up l)))
       (λ i. split (eqb v 125) (λ j. rw (h, i, j, template_turn) (g (down l))) (λ j. rw (h, i, j, s, template_turn) (g l))))
 
-  body_same : (cs : List ℕ) (p l : ℕ) → unslashed (up_to cs p k.span.end) ≡ true → template_body (rules_of first_close) next a 0 cs p l ≡ Got k → template_body (rules_of rune) next' a 0 cs p l ≡ Got k
+  body_same : (cs : List ℕ) (p l : ℕ) → unslashed (up_to cs p k.span.end) ≡ true → template_body (rules_of first_close) next a 0 cs p l ≡ Ok k → template_body (rules_of rune) next' a 0 cs p l ≡ Ok k
   unfolding template_body unslashed
   body_same [] p l u e = e
   body_same (v ∷ cs) p l u e =
@@ -142,16 +141,16 @@ deep_same (suc d) v cs p h = answer (template_body F next p 0 cs q 0) refl
     next = token_of F d
 
     answer : (r : Read) → template_body F next p 0 cs q 0 ≡ r → template_body (rules_of rune) (token_of (rules_of rune) d) p 0 cs q 0 ≡ template_body F next p 0 cs q 0
-    answer (Got k) e =
+    answer (Ok k) e =
         let w = width_pos v in
         let n : number_of k.kind ≡ 16 = (rw e at (body_templated F next p 0 cs q 0)) in
         let z : q ≤ k.span.end = (rw e at (lands_le F cs q (reached_of (template_body F next p 0 cs q 0)) (body_lands F next (token_lands F d) p 0 cs q 0))) in
-        let g : Steady (v ∷ cs) p (Got k) = (rw e at h) in
+        let g : Steady (v ∷ cs) p (Ok k) = (rw e at h) in
         let u : unslashed (v ∷ up_to cs q k.span.end) ≡ true = (rw (n, up_one v cs p k.span.end (omega arith)) at g) in
         body_same next (token_of (rules_of rune) d) (token_lands F d) p k cs q 0 (both_inv (not (eqb v 92)) (unslashed (up_to cs q k.span.end)) u).1 e ∙ sym e
-    answer (Refused r) e =
-        let n : r.number ≡ 19 = (rw e at (body_templated F next p 0 cs q 0)) in
-        let g : Steady (v ∷ cs) p (Refused r) = (rw e at h) in
+    answer (Err r) e =
+        let n : number_in r ≡ 19 = (rw e at (body_templated F next p 0 cs q 0)) in
+        let g : Steady (v ∷ cs) p (Err r) = (rw e at h) in
         never (let y = (rw n at g) in cc)
 
 -- a token that starts with the scalar v, at p
@@ -184,8 +183,8 @@ token_same d (v ∷ cs) p = rw (with_deep (rules_of first_close) d (v ∷ cs) p,
 
 -- the span of 12 has no part in it
 close_steady : (n : ℕ) (cs : List ℕ) (p : ℕ) (r : Read) → Steady cs p (close_span n r) → Steady cs p r
-close_steady n cs p (Got k) = λ h. h
-close_steady n cs p (Refused r) = split (eqb r.number 12) (λ e. let z = eqb-true r.number 12 e in rw (e, z) (λ h. refl)) (λ e. rw e (λ h. h))
+close_steady n cs p (Ok k) = λ h. h
+close_steady n cs p (Err r) = split (eqb (number_in r) 12) (λ e. let z = eqb-true (number_in r) 12 e in rw (e, z) (λ h. refl)) (λ e. rw e (λ h. h))
 
 next_same : (n : ℕ) (cs : List ℕ) (p : ℕ) → Steady cs p (next_of (rules_of first_close) n cs p) → next_of (rules_of rune) n cs p ≡ next_of (rules_of first_close) n cs p
 unfolding next_of
@@ -195,14 +194,14 @@ next_same n cs p =
 
 -- a token of the list, or the refusal that ends it
 module _ (s : List ℕ) (p : ℕ) where
-  got_same : (k : Token) → next_at first_close s p ≡ Got k → switchable s k ≡ true → next_at rune s p ≡ Got k
+  got_same : (k : Token) → next_at first_close s p ≡ Ok k → switchable s k ≡ true → next_at rune s p ≡ Ok k
   unfolding next_at switchable text_of
   got_same k e h =
       let i = tokens_start first_close s p (next_at first_close s p) refl k e in
-      let g : Steady (rest s p) p (Got k) = (rw i at h) in
+      let g : Steady (rest s p) p (Ok k) = (rw i at h) in
       next_same (length s) (rest s p) p (rw e g) ∙ e
 
-  refused_same : (r : Refusal) → next_at first_close s p ≡ Refused r → not (eqb r.number 19) ≡ true → next_at rune s p ≡ Refused r
+  refused_same : (r : Refusal) → next_at first_close s p ≡ Err r → not (eqb (number_in r) 19) ≡ true → next_at rune s p ≡ Err r
   unfolding next_at
   refused_same r e h = next_same (length s) (rest s p) p (rw e h) ∙ e
 
@@ -213,7 +212,7 @@ switch_from s fin p e h =
     (λ k q. split_eq k.span.end p (λ i. ends k q i) (λ i. never (let z = tokens_more first_close s p (next_at first_close s p) refl k q i in cc)))
     (λ k q. never (let z = tokens_halt first_close s p (next_at first_close s p) refl k q in cc))
   where
-    ends : (k : Token) → next_at first_close s p ≡ Got k → k.span.end ≡ p → tokens_at (rules_of rune) s p ≡ fin
+    ends : (k : Token) → next_at first_close s p ≡ Ok k → k.span.end ≡ p → tokens_at (rules_of rune) s p ≡ fin
     ends k q i =
         by_step s p (λ z. tokens_fin rune s p (next_at rune s p) refl (record { kind = Eof; span = point_of p }) (next_end rune s p z) refl)
         (λ v n t. absurd (let z = tokens_past_step first_close s p k q v n t in omega arith))
@@ -224,7 +223,7 @@ switch_from s (halt r) p e h =
     (λ k q.
     let z = tokens_halt first_close s p (next_at first_close s p) refl k q in
     let ek : k ≡ r = cc in
-    tokens_halt rune s p (next_at rune s p) refl r (refused_same s p r (q ∙ ap Refused ek) h))
+    tokens_halt rune s p (next_at rune s p) refl r (refused_same s p r (q ∙ ap Err ek) h))
 switch_from s (more k ts) p e h =
     let b = both_inv (switchable s k) (switch_safe s ts) h in
     by_read (next_at first_close s p)
@@ -234,7 +233,7 @@ switch_from s (more k ts) p e h =
     let ej : j ≡ k = cc in
     let et : ts ≡ tokens_at (rules_of first_close) s k.span.end = cc in
     let ends : k.span.end ≡ p → ⊥ = λ y. i (ap (λ (x : Token). x.span.end) ej ∙ y) in
-    tokens_more rune s p (next_at rune s p) refl k (got_same s p k (q ∙ ap Got ej) b.0) ends
+    tokens_more rune s p (next_at rune s p) refl k (got_same s p k (q ∙ ap Ok ej) b.0) ends
     ∙ ap (more k) (switch_from s ts k.span.end et b.1)))
     (λ j q. never (let z = tokens_halt first_close s p (next_at first_close s p) refl j q in cc))
 

@@ -1,10 +1,8 @@
 -- No rule of document 01, for theorems: places counted otherwise, by rules that differ only in how far a scalar moves the place, and answers with their places mapped.
-use Rattle.std.specs.Prelude.{ℕ, ◌+◌, ◌≡◌, List, [], ◌∷◌, take}
+use Rattle.std.specs.Prelude.{Err, Ok, ℕ, ◌+◌, ◌≡◌, List, [], ◌∷◌, take}
 use Rattle.families.specs.Places.{place_after}
 use Rattle.readers.specs.Rules.{Rules}
-use Rattle.token.specs.Reads.{span_of}
-use Rattle.token.specs.declared.read.Read.{Read}
-use Rattle.token.specs.declared.read.Read.TheVariants.{Got, Refused}
+use Rattle.token.specs.Reads.{span_of, Read}
 use Rattle.token.specs.declared.read.Refusal.{Refusal}
 use Rattle.token.specs.declared.read.Span.{Span}
 use Rattle.token.specs.declared.read.Token.{Token}
@@ -25,11 +23,11 @@ module _ (g : ℕ → ℕ) where
   map_token k = record { kind = k.kind; span = map_span k.span }
 
   abbrev pub map_refusal : Refusal → Refusal
-  map_refusal r = record { number = r.number; span = map_span r.span; reached = g r.reached }
+  map_refusal r = record { reason = r.reason; span = map_span r.span; reached = g r.reached }
 
   abbrev pub map_read : Read → Read
-  map_read (Got k) = Got (map_token k)
-  map_read (Refused r) = Refused (map_refusal r)
+  map_read (Ok k) = Ok (map_token k)
+  map_read (Err r) = Err (map_refusal r)
 
 -- places that count scalars, and the place by R of the i-th of the scalars cs
 abbrev pub counting : Rules → Rules

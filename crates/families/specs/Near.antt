@@ -3,8 +3,7 @@ use Rattle.std.specs.Prelude.{ℕ, ◌≡◌, List, [], ◌∷◌, ◌++◌, tru
 use Rattle.families.specs.Places.{place_after}
 use Rattle.readers.specs.Numbers.{asks_digit}
 use Rattle.readers.specs.Rules.{Rules}
-use Rattle.token.specs.Reads.{reached_of}
-use Rattle.token.specs.declared.read.Read.{Read}
+use Rattle.token.specs.Reads.{reached_of, Read}
 
 -- alike as far as one scalar
 abbrev pub SameFirst : List ℕ → List ℕ → Type 0

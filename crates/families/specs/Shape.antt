@@ -1,5 +1,6 @@
 -- No rule of document 01, for theorems: what a token with an inside looks like, a mark before the inside, the inside, a mark after it, and what may follow.
-use Rattle.std.specs.Prelude.{ℕ, ◌≤◌, ◌≡◌, List, [], ◌∷◌, ◌++◌, Bool, true, false, ◌⊎◌, length, replicate}
+use Rattle.std.specs.Prelude.{ℕ, ◌≤◌, ◌≡◌, List, [], ◌∷◌, ◌++◌, Bool, true, false, ◌⊎◌, length, replicate, Err, Ok}
+use Rattle.token.specs.Reads.{Read}
 use Rattle.families.specs.Places.{place_after}
 use Rattle.numbers.specs.Kinds.{has_inside}
 use Rattle.readers.specs.Readers.{str_kind}
@@ -7,8 +8,6 @@ use Rattle.readers.specs.Rules.{Rules}
 use Rattle.text.specs.Characters.{backtick, double_quote, letter_b, line_feed, slash, star}
 use Rattle.token.specs.declared.kind.Kind.{Kind}
 use Rattle.token.specs.declared.kind.Kind.TheVariants.{Comment, MultilineComment, Template}
-use Rattle.token.specs.declared.read.Read.{Read}
-use Rattle.token.specs.declared.read.Read.TheVariants.{Got, Refused}
 use Rattle.token.specs.declared.read.Token.{Token}
 
 -- the tokens with an inside: `//`, `/*` (closed?), a string (of bytes?, with an escape?), a template (closed?)
@@ -66,8 +65,8 @@ pub record Framed (R : Rules) (cs : List ℕ) (p : ℕ) (k : Token) : Type 0 whe
 
 -- an accepted token has no inside, or is framed
 abbrev pub Shaped : Rules → List ℕ → ℕ → Read → Type 0
-Shaped R cs p (Got k) = (has_inside k.kind ≡ false) ⊎ Framed R cs p k
-Shaped R cs p (Refused r) = Unit
+Shaped R cs p (Ok k) = (has_inside k.kind ≡ false) ⊎ Framed R cs p k
+Shaped R cs p (Err r) = Unit
 
 -- with x in place of the inside, the escape mark is gone
 abbrev pub plain_shape : Shape → Shape

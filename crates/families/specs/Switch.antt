@@ -1,4 +1,5 @@
 -- Document 02, A3: when a source's list in the mode in which the first close ends a comment is rune's list too, told from that list alone.
+use Rattle.token.specs.Reads.{number_in}
 use Rattle.std.specs.Prelude.{ℕ, ◌+◌, List, [], ◌∷◌, Bool, true, not, leb, ltb, eqb, length}
 use Rattle.families.specs.Tokens.{Tokens, fin, halt, more}
 use Rattle.laws.specs.Bools.{both, pick}
@@ -31,5 +32,5 @@ switchable s k = steady (number_of k.kind) (text_of s k)
 -- every token of the list is so, and 19 does not end it: a backslash in a template led there
 unfoldable pub switch_safe : List ℕ → Tokens → Bool
 switch_safe s fin = true
-switch_safe s (halt r) = not (eqb r.number 19)
+switch_safe s (halt r) = not (eqb (number_in r) 19)
 switch_safe s (more k ts) = both (switchable s k) (switch_safe s ts)

@@ -1,10 +1,9 @@
 -- The tokens of a source as data, read one after the other up to the end or to a refusal.
-use Rattle.std.specs.Prelude.{ℕ, suc, ◌+◌, ◌<◌, ◌≡◌, List, [], ◌∷◌, true, false, ltb, length}
+use Rattle.std.specs.Prelude.{Err, Ok, ℕ, suc, ◌+◌, ◌<◌, ◌≡◌, List, [], ◌∷◌, true, false, ltb, length}
+use Rattle.token.specs.Reads.{Read}
 use Rattle.lexer.specs.Next.{next_of}
 use Rattle.readers.specs.Rules.{Rules}
 use Rattle.text.specs.Utf8.{rest}
-use Rattle.token.specs.declared.read.Read.{Read}
-use Rattle.token.specs.declared.read.Read.TheVariants.{Got, Refused}
 use Rattle.token.specs.declared.read.Refusal.{Refusal}
 use Rattle.token.specs.declared.read.Token.{Token}
 
@@ -14,8 +13,8 @@ pub data Tokens : Type 0 where
   more : Token → Tokens → Tokens
 
 abbrev pub each_of : Read → (ℕ → Tokens) → Tokens
-each_of (Refused r) go = halt r
-each_of (Got k) go = more k (go k.span.end)
+each_of (Err r) go = halt r
+each_of (Ok k) go = more k (go k.span.end)
 
 -- the tokens of the scalars cs from p on, in a source that ends at n. Scalars before the place t belong to the token before, and are passed over
 unfoldable pub tokens_of : Rules → ℕ → ℕ → List ℕ → ℕ → Tokens

@@ -1,4 +1,5 @@
 -- Any two results that the promise of `findings` allows are equal. Assumes nothing.
+use Rattle.listing.specs.Listing.{Listed}
 use Prim.Native.Nat.{ℕ}
 use mathlib.Core.Path.{◌≡◌}
 use mathlib.Core.List.{List}
@@ -6,7 +7,6 @@ use lib.Seq.{sets}
 use lib.ListN.{length}
 use Rattle.findings.specs.Findings.{findings_of, stored_findings}
 use Rattle.laws.proofs.Determined.{determined_both}
-use Rattle.listing.specs.declared.Listed.{Listed}
 use Rattle.readers.specs.declared.reading.Reading.{Reading}
 
 pub findings_determined : (g : Reading) (s out : List ℕ) (r q : Listed) (v w : List ℕ) → (r ≡ findings_of g s (length out)) × (v ≡ sets out 0 (stored_findings g s (length out)))

@@ -1,4 +1,7 @@
 -- Up to the first runs-on both readings list the same, word for word; with none the whole lists and the refusal are the same. Assumes nothing.
+use Rattle.std.specs.Prelude.{Err, Ok}
+use Rattle.token.proofs.Reasons.{reason_one}
+use Rattle.token.specs.declared.reason.Reason.TheVariants.{NoRoom}
 use Prim.Native.Nat.{ℕ, ◌+◌, ◌-◌}
 use mathlib.Core.Path.{◌≡◌, refl, sym, ap, ◌∙◌}
 use mathlib.Core.List.{List, [], ◌∷◌, ◌++◌}
@@ -20,31 +23,26 @@ use Rattle.laws.proofs.Cases.{both_inv, never, split, split_eq}
 use Rattle.laws.specs.Bools.{both, pick}
 use Rattle.lexer.specs.Next.{next_at}
 use Rattle.listing.proofs.Stores.{by_test}
-use Rattle.listing.specs.Listing.{list_answer, list_of, listed_words, stored_of}
-use Rattle.listing.specs.declared.Listed.TheVariants.{Stopped, Whole}
+use Rattle.listing.specs.Listing.{list_answer, list_of, listed_words, stored_of, listed_up_to}
 use Rattle.marks.specs.Marks.{close_mark}
 use Rattle.numbers.specs.Kinds.{number_of}
 use Rattle.readers.specs.Rules.{rules_of}
 use Rattle.readers.specs.declared.reading.Reading.{Reading}
 use Rattle.source_test.specs.Source.{source_test}
-use Rattle.source_test.specs.declared.Tested.{Tested}
-use Rattle.source_test.specs.declared.Tested.TheVariants.{Sound, Unsound}
 use Rattle.text.proofs.Decode.{by_step}
 use Rattle.text.specs.Utf8.{rest}
-use Rattle.token.specs.Reads.{got_of, point_of, reached_of, span_of}
+use Rattle.token.specs.Reads.{got_of, point_of, reached_of, span_of, Read, Tested, number_in}
 use Rattle.token.specs.declared.kind.Kind.TheVariants.{Eof}
-use Rattle.token.specs.declared.read.Read.{Read}
-use Rattle.token.specs.declared.read.Read.TheVariants.{Got, Refused}
 use Rattle.token.specs.declared.read.Refusal.{Refusal}
 use Rattle.token.specs.declared.read.Token.{Token}
 
 module _ (g : Reading) (s : List ℕ) (p : ℕ) where
-  pub halt_inv : (r : Refusal) → halt r ≡ tokens_at (rules_of g) s p → next_at g s p ≡ Refused r
+  pub halt_inv : (r : Refusal) → halt r ≡ tokens_at (rules_of g) s p → next_at g s p ≡ Err r
   halt_inv r e = sym (head_next g s p) ∙ ap (head_of p) (sym e)
 
-  pub more_inv : (k : Token) (ts : Tokens) → more k ts ≡ tokens_at (rules_of g) s p → (next_at g s p ≡ Got k) × (k.span.end ≡ p → ⊥) × (ts ≡ tokens_at (rules_of g) s k.span.end)
+  pub more_inv : (k : Token) (ts : Tokens) → more k ts ≡ tokens_at (rules_of g) s p → (next_at g s p ≡ Ok k) × (k.span.end ≡ p → ⊥) × (ts ≡ tokens_at (rules_of g) s k.span.end)
   more_inv k ts e =
-      let n : next_at g s p ≡ Got k = sym (head_next g s p) ∙ ap (head_of p) (sym e) in
+      let n : next_at g s p ≡ Ok k = sym (head_next g s p) ∙ ap (head_of p) (sym e) in
       let past : k.span.end ≡ p → ⊥ = λ z. never (let y = tokens_fin g s p (next_at g s p) refl k n z in cc) in
       (n, past, (let y = tokens_more g s p (next_at g s p) refl k n past in cc))
 
@@ -64,21 +62,21 @@ module _ (g : Reading) (s : List ℕ) (p : ℕ) where
       (λ k e. stay_refused g s p p (next_at g s p) refl k e)
 
 -- what is alike is the same: a refusal whole, a token up to what its number does not say
-alike_refused : (r : Refusal) (b : Read) → alike (Refused r) b ≡ true → b ≡ Refused r
-alike_refused r (Got k) h = never (cc)
-alike_refused r (Refused q) h =
-    let i = both_inv (eqb r.number q.number) (both (eqb r.span.start q.span.start) (both (eqb r.span.end q.span.end) (eqb r.reached q.reached))) h in
+alike_refused : (r : Refusal) (b : Read) → alike (Err r) b ≡ true → b ≡ Err r
+alike_refused r (Ok k) h = never (cc)
+alike_refused r (Err q) h =
+    let i = both_inv (eqb (number_in r) (number_in q)) (both (eqb r.span.start q.span.start) (both (eqb r.span.end q.span.end) (eqb r.reached q.reached))) h in
     let j = both_inv (eqb r.span.start q.span.start) (both (eqb r.span.end q.span.end) (eqb r.reached q.reached)) i.1 in
     let l = both_inv (eqb r.span.end q.span.end) (eqb r.reached q.reached) j.1 in
-    let n = eqb-true r.number q.number i.0 in
+    let n = reason_one r.reason q.reason (eqb-true (number_in r) (number_in q) i.0) in
     let a = eqb-true r.span.start q.span.start j.0 in
     let e = eqb-true r.span.end q.span.end l.0 in
     let t = eqb-true r.reached q.reached l.1 in
-    sym (λ i. Refused (record { number = n i; span = record { start = a i; end = e i }; reached = t i }))
+    sym (λ i. Err (record { reason = n i; span = record { start = a i; end = e i }; reached = t i }))
 
-alike_got : (k : Token) (b : Read) → alike (Got k) b ≡ true → (j : Token) × (b ≡ Got j) × (number_of k.kind ≡ number_of j.kind) × (k.span.end ≡ j.span.end)
-alike_got k (Refused r) h = never (cc)
-alike_got k (Got j) h =
+alike_got : (k : Token) (b : Read) → alike (Ok k) b ≡ true → (j : Token) × (b ≡ Ok j) × (number_of k.kind ≡ number_of j.kind) × (k.span.end ≡ j.span.end)
+alike_got k (Err r) h = never (cc)
+alike_got k (Ok j) h =
     let i = both_inv (eqb (number_of k.kind) (number_of j.kind)) (eqb k.span.end j.span.end) h in
     (j, refl, eqb-true (number_of k.kind) (number_of j.kind) i.0, eqb-true k.span.end j.span.end i.1)
 
@@ -152,16 +150,16 @@ module _ (g : Reading) (s : List ℕ) (p q : ℕ) (u : onward p q (tokens_at (ru
   at_halt : (r : Refusal) → halt r ≡ tokens_at (rules_of g) s p → (tokens_at (rules_of (under_first g)) s p ≡ halt r) ⊎ Apart
   at_halt r e =
       let n = halt_inv g s p r e in
-      split (alike (Refused r) (next_at (under_first g) s p))
+      split (alike (Err r) (next_at (under_first g) s p))
       (λ h. inl (tokens_halt (under_first g) s p (next_at (under_first g) s p) refl r (alike_refused r (next_at (under_first g) s p) h)))
-      (λ h. inr (unlike (Refused r) (sym n) (λ i. absurd (let l = refused_past g s p (Refused r) (sym n) r refl in omega arith)) h))
+      (λ h. inr (unlike (Err r) (sym n) (λ i. absurd (let l = refused_past g s p (Err r) (sym n) r refl in omega arith)) h))
 
   at_more : (k : Token) (ts : Tokens) → more k ts ≡ tokens_at (rules_of g) s p → Together k ts ⊎ Apart
   at_more k ts e =
       let m = more_inv g s p k ts e in
-      split (alike (Got k) (next_at (under_first g) s p)) (λ h. inl (together m h)) (λ h. inr (unlike (Got k) (sym m.0) m.1 h))
+      split (alike (Ok k) (next_at (under_first g) s p)) (λ h. inl (together m h)) (λ h. inr (unlike (Ok k) (sym m.0) m.1 h))
     where
-      together : (next_at g s p ≡ Got k) × (k.span.end ≡ p → ⊥) × (ts ≡ tokens_at (rules_of g) s k.span.end) → alike (Got k) (next_at (under_first g) s p) ≡ true → Together k ts
+      together : (next_at g s p ≡ Ok k) × (k.span.end ≡ p → ⊥) × (ts ≡ tokens_at (rules_of g) s k.span.end) → alike (Ok k) (next_at (under_first g) s p) ≡ true → Together k ts
       together m h =
           let b = next_at (under_first g) s p in
           let i = alike_got k b h in
@@ -178,7 +176,7 @@ module _ (g : Reading) (s : List ℕ) (p q : ℕ) (u : onward p q (tokens_at (ru
                 sym (go_onward (under_first g) s k.span.end p b refl j i.1 past (let y = i.3 in omega arith))
                 ∙ ap (λ (x : ℕ). onward k.span.end x (tokens_at (rules_of (under_first g)) s x)) (sym i.3) ∙ stay_here (under_first g) s k.span.end;
             walks =
-                let l = like (Got k) (sym m.0) m.1 h in
+                let l = like (Ok k) (sym m.0) m.1 h in
                 let c = alone_parts p k (walk_at g s k.span.end p) in
                 ((λ n. ap (λ (fs : List Finding). part_at fs n) l ∙ c.0 n), ap partless l ∙ c.1);
             rest = m.2;
@@ -227,7 +225,7 @@ whole_from g s (more k ts) p q room n i u h =
     let z = t.end in
     let w = whole_from g s ts k.span.end p (room - 3) (n + 1) t.rest t.stands (sym t.walks.1 ∙ h) in
     rw t.list (split (ltb room 3)
-    (λ e. rw (e, listed_words, list_answer) (refl, (λ x. Stopped n (record { number = 3; span = span_of (a x) (z x); reached = z x }))))
+    (λ e. rw (e, listed_words, list_answer) (refl, (λ x. listed_up_to n (record { reason = NoRoom; span = span_of (a x) (z x); reached = z x }))))
     (λ e. rw (e, listed_words, list_answer) ((λ x. b x ∷ (a x ∷ (z x ∷ w.0 x))), w.1))))
     (λ a. never (let z = a.parted in cc))
     (at_more g s p q u k ts i)
@@ -244,21 +242,21 @@ module _ (g : Reading) (s : List ℕ) where
   in_step h room = by_source (source_test s) refl
     where
       by_source : (t : Tested) → t ≡ source_test s → (list_of g s room ≡ list_of (under_first g) s room) × (stored_of g s room ≡ stored_of (under_first g) s room)
-      by_source Sound e =
-          let a = by_test g s room Sound e in
-          let b = by_test (under_first g) s room Sound e in
+      by_source (Ok u) e =
+          let a = by_test g s room (Ok tt) e in
+          let b = by_test (under_first g) s room (Ok tt) e in
           let w = whole_from g s (tokens_at (rules_of g) s 0) 0 0 room 0 refl (stay_here (under_first g) s 0) (sym (mark_parts (rest s 0) (walk_at g s 0 0)).1 ∙ h) in
           (a.0 ∙ w.1 ∙ sym b.0, a.1 ∙ w.0 ∙ sym b.1)
-      by_source (Unsound r) e = let a = by_test g s room (Unsound r) e in let b = by_test (under_first g) s room (Unsound r) e in (a.0 ∙ sym b.0, a.1 ∙ sym b.1)
+      by_source (Err r) e = let a = by_test g s room (Err r) e in let b = by_test (under_first g) s room (Err r) e in (a.0 ∙ sym b.0, a.1 ∙ sym b.1)
 
 -- an answer without a refusal counts all that was found
-ends_count : (ts : Tokens) (n m : ℕ) → ends_as ts n ≡ Whole m → n ≡ m
+ends_count : (ts : Tokens) (n m : ℕ) → ends_as ts n ≡ Ok m → n ≡ m
 unfolding ends_as
 ends_count fin n m e = cc
 ends_count (halt r) n m e = never (cc)
 ends_count (more k ts) n m e = ends_count ts n m e
 
-found_count : (fs : List Finding) (ts : Tokens) (room n m : ℕ) → answer_found fs (ends_as ts) room n ≡ Whole m → n + length fs ≡ m
+found_count : (fs : List Finding) (ts : Tokens) (room n m : ℕ) → answer_found fs (ends_as ts) room n ≡ Ok m → n + length fs ≡ m
 unfolding answer_found
 found_count [] ts room n m e = let z = ends_count ts n m e in omega arith
 found_count (f ∷ fs) ts room n m e =
@@ -270,13 +268,13 @@ none_found [] e = refl
 none_found (f ∷ fs) e = absurd (omega arith)
 
 -- where nothing is found, neither finding nor refusal, both readings list the same
-pub nothing_found : (g : Reading) (s : List ℕ) (room : ℕ) → findings_of g s room ≡ Whole 0 → (n : ℕ) → (list_of g s n ≡ list_of (under_first g) s n) × (stored_of g s n ≡ stored_of (under_first g) s n)
+pub nothing_found : (g : Reading) (s : List ℕ) (room : ℕ) → findings_of g s room ≡ Ok 0 → (n : ℕ) → (list_of g s n ≡ list_of (under_first g) s n) × (stored_of g s n ≡ stored_of (under_first g) s n)
 unfolding partless
 nothing_found g s room h = by_source (source_test s) refl
   where
     by_source : (t : Tested) → t ≡ source_test s → (n : ℕ) → (list_of g s n ≡ list_of (under_first g) s n) × (stored_of g s n ≡ stored_of (under_first g) s n)
-    by_source Sound e =
-        let c = found_count (found_of g s) (tokens_at (rules_of g) s 0) room 0 0 (sym (found_by_test g s room Sound e).0 ∙ h) in
+    by_source (Ok u) e =
+        let c = found_count (found_of g s) (tokens_at (rules_of g) s 0) room 0 0 (sym (found_by_test g s room (Ok tt) e).0 ∙ h) in
         let z = none_found (found_of g s) (omega arith) in
         in_step g s (rw z refl)
-    by_source (Unsound r) e = never (let b = (found_by_test g s room (Unsound r) e).0 in cc)
+    by_source (Err r) e = never (let b = (found_by_test g s room (Err r) e).0 in cc)

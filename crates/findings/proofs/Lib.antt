@@ -5,3 +5,4 @@ pub mod InStep
 pub mod Parted
 pub mod Shown
 pub mod Calls
+pub mod Codes

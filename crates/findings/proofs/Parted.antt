@@ -1,4 +1,7 @@
 -- Only a comment or a template is read otherwise under First. Assumes nothing.
+use Rattle.std.specs.Prelude.{Err, Ok}
+use Rattle.token.specs.Reads.{Read}
+use Rattle.token.specs.Reads.{number_in}
 use Prim.Native.Nat.{ℕ, zero, suc, ◌+◌, ◌≤◌, ◌<◌}
 use mathlib.Core.Path.{◌≡◌, refl, sym, ap, ◌∙◌}
 use mathlib.Core.List.{List, [], ◌∷◌}
@@ -26,8 +29,6 @@ use Rattle.templates.proofs.Landing.{deep_of, with_deep}
 use Rattle.templates.specs.Body.{template_body, template_of, token_of}
 use Rattle.text.specs.Utf8.{rest, width}
 use Rattle.token.specs.declared.kind.Kind.TheVariants.{Comment}
-use Rattle.token.specs.declared.read.Read.{Read}
-use Rattle.token.specs.declared.read.Read.TheVariants.{Got, Refused}
 use Rattle.token.specs.declared.read.Token.{Token}
 
 abbrev pub Parted : Read → Type 0
@@ -46,8 +47,8 @@ behind_parted R k a [] p = comment_parted k a [] p
 behind_parted R k a (v ∷ cs) p = comment_parted k a cs (p + R.stride v)
 
 templated : (r : Read) → Templated r → Parted r
-templated (Got k) h = rw h refl
-templated (Refused r) h = eq-eqb r.number 19 h
+templated (Ok k) h = rw h refl
+templated (Err r) h = eq-eqb (number_in r) 19 h
 
 deep_parted : (d a : ℕ) (cs : List ℕ) (p : ℕ) → Parted (deep_of (rules_of rune) d a cs p)
 unfolding deep_of template_of
@@ -79,8 +80,8 @@ token_kept d (v ∷ cs) p = rw (with_deep (rules_of first_close) d (v ∷ cs) p,
 
 -- the span of 12 has no part in it
 close_parted : (n : ℕ) (r : Read) → Parted r → Parted (close_span n r)
-close_parted n (Got k) h = h
-close_parted n (Refused r) h = let i = eqb-true r.number 19 h in rw (ne_eqb r.number 12 (λ e. omega arith)) h
+close_parted n (Ok k) h = h
+close_parted n (Err r) h = let i = eqb-true (number_in r) 19 h in rw (ne_eqb (number_in r) 12 (λ e. omega arith)) h
 
 close_kept : (n : ℕ) (r r' : Read) → Kept r r' → Kept (close_span n r) (close_span n r')
 close_kept n r r' (inl e) = inl (ap (close_span n) e)
@@ -103,14 +104,14 @@ only_comments_part g s p = by_comments g.comments s p
 
 -- the test, as the code makes it
 module _ (k : Token) (n : ℕ) (e : n ≡ number_of k.kind) where
-  pub parts_template : n ≡ 16 → true ≡ parts_of (Got k)
+  pub parts_template : n ≡ 16 → true ≡ parts_of (Ok k)
   parts_template h = rw (← e, h) refl
 
   module _ (h : n ≡ 16 → ⊥) where
-    pub parts_low : n < 3 → false ≡ parts_of (Got k)
+    pub parts_low : n < 3 → false ≡ parts_of (Ok k)
     parts_low l = rw (← e) (rw (within_low 3 4 n l, ne_eqb n 16 h) refl)
 
-    pub parts_rest : 3 ≤ n → leb n 4 ≡ parts_of (Got k)
+    pub parts_rest : 3 ≤ n → leb n 4 ≡ parts_of (Ok k)
     parts_rest l = rw (← e) (rw (le-leb 3 n l, ne_eqb n 16 h) (sym (either_false (leb n 4))))
 
 -- what cannot part is the same under First

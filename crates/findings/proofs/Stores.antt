@@ -1,4 +1,7 @@
 -- A finding more in the store: what is left to find gives the answer, and written after what is stored it gives the store. Assumes nothing.
+use Rattle.listing.specs.Listing.{Listed, listed_up_to, stopped_at}
+use Rattle.listing.specs.declared.Stopped.{Stopped}
+use Rattle.std.specs.Prelude.{None, Option, Some, Result, Ok, Err}
 use Prim.Native.Nat.{ℕ, suc, ◌+◌, ◌-◌, ◌≤◌, ◌<◌}
 use mathlib.Core.Path.{◌≡◌, refl, sym, ap, ◌∙◌}
 use mathlib.Core.List.{List, [], ◌∷◌, ◌++◌}
@@ -9,16 +12,11 @@ use lib.Seq.{length-sets, sets}
 use lib.ListN.{length, set}
 use borrow.Author.Tests.{le-ltb, lt-ltb, ltb-false}
 use Rattle.findings.specs.Findings.{answer_found, finding_words, listed, no_room_for, words_found}
-use Rattle.findings.specs.Notes.{noted_of}
+use Rattle.findings.specs.Notes.{noted_at, noted_of}
 use Rattle.findings.specs.declared.store.Finding.{Finding}
 use Rattle.findings.specs.declared.store.Noted.{Noted}
-use Rattle.findings.specs.declared.store.Noted.TheVariants.{Full, Went}
-use Rattle.findings.specs.declared.store.Spotted.{Spotted}
-use Rattle.findings.specs.declared.store.Spotted.TheVariants.{Nothing, One}
 use Rattle.laws.proofs.Cases.{never, split}
 use Rattle.laws.proofs.Sets.{sets_append}
-use Rattle.listing.specs.declared.Listed.{Listed}
-use Rattle.listing.specs.declared.Listed.TheVariants.{Stopped}
 
 pub put_five : (out : List ℕ) (n a b c d e : ℕ) → set (set (set (set (set out n a) (n + 1) b) (n + 2) c) (n + 3) d) (n + 4) e ≡ sets out n (a ∷ (b ∷ (c ∷ (d ∷ (e ∷ [])))))
 put_five out n a b c d e =
@@ -28,20 +26,28 @@ put_five out n a b c d e =
     let e₄ : n + 4 ≡ suc (suc (suc (suc n))) = omega arith in
     λ i. set (set (set (set (set out n a) (e₁ i) b) (e₂ i) c) (e₃ i) d) (e₄ i) e
 
-module _ (out : List ℕ) (n count : ℕ) (x : Spotted) where
-  abbrev pub Note : Noted → List ℕ → Type 0
-  Note r o = (r ≡ noted_of (length out) n count x) × (o ≡ sets out n (words_found (listed x) (length out - n)))
+abbrev stop_in : Stopped → Result Noted Stopped → Stopped
+stop_in d (Ok h) = d
+stop_in d (Err s) = s
 
-  pub note_none : x ≡ Nothing → Note (Went n count) out
+abbrev told : Result Noted Stopped → Noted
+told (Ok h) = h
+told (Err s) = noted_at 0 0
+
+module _ (out : List ℕ) (n count : ℕ) (x : Option Finding) where
+  abbrev pub Note : Result Noted Stopped → List ℕ → Type 0
+  Note r o = (r ≡ noted_of (length out) (noted_at n count) x) × (o ≡ sets out n (words_found (listed x) (length out - n)))
+
+  pub note_none : x ≡ None → Note (Ok (noted_at n count)) out
   unfolding words_found noted_of
   note_none e = rw (e, noted_of, words_found) (refl, refl)
 
-  module _ (f : Finding) (e : x ≡ One f) where
-    pub note_full : (l : Listed) → l ≡ Stopped count (no_room_for f) → length out - n < 5 → Note (Full l) out
+  module _ (f : Finding) (e : x ≡ Some f) where
+    pub note_full : (l : Stopped) → l ≡ stopped_at count (no_room_for f) → length out - n < 5 → Note (Err l) out
     unfolding words_found noted_of
     note_full l i h = rw (e, i, lt-ltb (length out - n) 5 h, words_found, noted_of) (refl, refl)
 
-    pub note_went : (o : List ℕ) → o ≡ sets out n (finding_words f []) → 5 ≤ length out - n → Note (Went (n + 5) (count + 1)) o
+    pub note_went : (o : List ℕ) → o ≡ sets out n (finding_words f []) → 5 ≤ length out - n → Note (Ok (noted_at (n + 5) (count + 1))) o
     unfolding words_found noted_of
     note_went o i h = rw (e, i, le-ltb (length out - n) 5 h, words_found, noted_of) (refl, refl)
 
@@ -85,33 +91,34 @@ module _ (all : List Finding) (close : ℕ → Listed) (out₀ : List ℕ) (n₀
         }
 
     -- one more, or none, was noted
-    module _ (fs : List Finding) (o : List ℕ) (r : Noted) where
-      pub left_went : (x : Spotted) → Left all close out₀ n₀ c₀ (listed x ++ fs) out n count → Note out n count x r o → (m d : ℕ) → r ≡ Went m d → Left all close out₀ n₀ c₀ fs o m d
+    module _ (fs : List Finding) (o : List ℕ) (r : Result Noted Stopped) where
+      pub left_went : (x : Option Finding) → Left all close out₀ n₀ c₀ (listed x ++ fs) out n count → Note out n count x r o → (m d : ℕ) → r ≡ Ok (noted_at m d) → Left all close out₀ n₀ c₀ fs o m d
       unfolding answer_found words_found noted_of
-      left_went Nothing h w m d e =
-          let z : Went m d ≡ Went n count = sym e ∙ w.0 in
-          let em : m ≡ n = cc in
-          let ed : d ≡ count = cc in
+      left_went None h w m d e =
+          let z = ap told (sym e ∙ w.0) in
+          let em : m ≡ n = ap (λ (h : Noted). h.words) z in
+          let ed : d ≡ count = ap (λ (h : Noted). h.count) z in
           rw (em, ed, w.1) h
-      left_went (One f) h w m d e =
-          split (ltb (length out - n) 5) (λ t. never (let z : Went m d ≡ Full (Stopped count (no_room_for f)) = sym e ∙ w.0 ∙ rw (t, noted_of) refl in cc))
+      left_went (Some f) h w m d e =
+          split (ltb (length out - n) 5) (λ t. never (let z : Ok (noted_at m d) ≡ Err (stopped_at count (no_room_for f)) = sym e ∙ w.0 ∙ rw (t, noted_of) refl in cc))
           (λ t.
-          let z : Went m d ≡ Went (n + 5) (count + 1) = sym e ∙ w.0 ∙ rw (t, noted_of) refl in
-          let em : m ≡ n + 5 = cc in
-          let ed : d ≡ count + 1 = cc in
+          let y : Ok (noted_at m d) ≡ Ok (noted_at (n + 5) (count + 1)) = sym e ∙ w.0 ∙ rw (t, noted_of) refl in
+          let z = ap told y in
+          let em : m ≡ n + 5 = ap (λ (h : Noted). h.words) z in
+          let ed : d ≡ count + 1 = ap (λ (h : Noted). h.count) z in
           let eo : o ≡ sets out n (finding_words f []) = w.1 ∙ rw (t, words_found) refl in
           rw (em, ed, eo) (one_more f fs h t))
 
-      pub left_full : (x : Spotted) → Left all close out₀ n₀ c₀ (listed x ++ fs) out n count → Note out n count x r o → (l : Listed) → r ≡ Full l → Done l o
+      pub left_full : (x : Option Finding) → Left all close out₀ n₀ c₀ (listed x ++ fs) out n count → Note out n count x r o → (l : Stopped) → r ≡ Err l → Done (Err l) o
       unfolding answer_found words_found noted_of
-      left_full Nothing h w l e = never (let z : Full l ≡ Went n count = sym e ∙ w.0 in cc)
-      left_full (One f) h w l e =
+      left_full None h w l e = never (let z : Err l ≡ Ok (noted_at n count) = sym e ∙ w.0 in cc)
+      left_full (Some f) h w l e =
           split (ltb (length out - n) 5)
           (λ t.
-          let z : Full l ≡ Full (Stopped count (no_room_for f)) = sym e ∙ w.0 ∙ rw (t, noted_of) refl in
-          let el : l ≡ Stopped count (no_room_for f) = cc in
+          let z : Err l ≡ Err (stopped_at count (no_room_for f)) = sym e ∙ w.0 ∙ rw (t, noted_of) refl in
+          let el : Err l ≡ listed_up_to count (no_room_for f) = ap (λ (x : Result Noted Stopped). Err (stop_in l x)) z in
           let eo : o ≡ out = w.1 ∙ rw (t, words_found) refl in
           let a = (rw (t, answer_found) at h.answers) in
           let b = (rw (t, words_found) at h.stores) in
           (el ∙ a, eo ∙ b))
-          (λ t. never (let z : Full l ≡ Went (n + 5) (count + 1) = sym e ∙ w.0 ∙ rw (t, noted_of) refl in cc))
+          (λ t. never (let z : Err l ≡ Ok (noted_at (n + 5) (count + 1)) = sym e ∙ w.0 ∙ rw (t, noted_of) refl in cc))

@@ -1,4 +1,7 @@
 -- One turn of the walk: what it finds at a place, and what is left to find after it. Assumes nothing.
+use Rattle.listing.specs.Listing.{Listed, listed_up_to}
+use Rattle.listing.specs.declared.Stopped.{Stopped}
+use Rattle.std.specs.Prelude.{Err, Ok, Option, Result}
 use Prim.Native.Nat.{ℕ, ◌-◌, ◌≤◌, ◌<◌}
 use mathlib.Core.Path.{◌≡◌, refl, sym, ap, ◌∙◌}
 use mathlib.Core.List.{List, [], ◌∷◌, ◌++◌, append-nil}
@@ -13,26 +16,19 @@ use Rattle.families.specs.Tokens.{tokens_at}
 use Rattle.findings.proofs.Readings.{head_next}
 use Rattle.findings.proofs.Stores.{Done, Left, Note, left_done, left_first, left_full, left_went}
 use Rattle.findings.specs.Findings.{across, alike, alone, answer_found, as_code, ends_as, findings_of, found_of, from_of, head_of, is_comment, is_white_or_comment, listed, mark_of, onward, runs_on, stored_findings, under_first, walk, walk_at, words_found}
-use Rattle.findings.specs.Notes.{AllSmall, Small}
+use Rattle.findings.specs.Notes.{AllSmall, Small, noted_at}
 use Rattle.findings.specs.declared.store.Finding.{Finding}
 use Rattle.findings.specs.declared.store.Noted.{Noted}
-use Rattle.findings.specs.declared.store.Noted.TheVariants.{Full, Went}
-use Rattle.findings.specs.declared.store.Spotted.{Spotted}
 use Rattle.laws.proofs.Cases.{split}
 use Rattle.laws.specs.Bools.{both}
 use Rattle.lexer.specs.Next.{next_at}
-use Rattle.listing.specs.declared.Listed.{Listed}
-use Rattle.listing.specs.declared.Listed.TheVariants.{Stopped, Whole}
 use Rattle.marks.specs.Marks.{close_mark}
 use Rattle.numbers.specs.Kinds.{number_of}
 use Rattle.readers.specs.Rules.{rules_of}
 use Rattle.readers.specs.declared.reading.Reading.{Reading}
 use Rattle.source_test.specs.Source.{after_test, source_test}
-use Rattle.source_test.specs.declared.Tested.{Tested}
 use Rattle.text.specs.Utf8.{rest}
-use Rattle.token.specs.Reads.{reached_of}
-use Rattle.token.specs.declared.read.Read.{Read}
-use Rattle.token.specs.declared.read.Read.TheVariants.{Got, Refused}
+use Rattle.token.specs.Reads.{reached_of, Read, Tested}
 use Rattle.token.specs.declared.read.Refusal.{Refusal}
 use Rattle.token.specs.declared.read.Token.{Token}
 
@@ -44,9 +40,9 @@ module _ (p x q y : ℕ) (hp : p ≤ 65536) (hx : x ≤ 65536) (hq : q ≤ 65536
 
   code_small : (a b : Read) → reached_of a ≡ x → reached_of b ≡ y → AllSmall (as_code p a q b)
   unfolding as_code
-  code_small (Refused r) b ex ey = tt
-  code_small (Got k) (Refused r) ex ey = tt
-  code_small (Got k) (Got j) ex ey =
+  code_small (Err r) b ex ey = tt
+  code_small (Ok k) (Err r) ex ey = tt
+  code_small (Ok k) (Ok j) ex ey =
       split (both (is_comment j) (not (is_white_or_comment k))) (λ e. rw e (hp, omega arith, hq, omega arith)) (λ e. rw e tt)
 
   pub across_small : (g : Reading) (s : List ℕ) (a b : Read) → reached_of a ≡ x → reached_of b ≡ y → AllSmall (across g s p a q b)
@@ -68,8 +64,8 @@ mark_small (v ∷ cs) = split (eqb v 0xFEFF) (λ e. rw e (omega arith, omega ari
 
 -- what comes after what is found by the side of First, which stands at q
 abbrev pub after_of : Reading → List ℕ → ℕ → ℕ → Read → List Finding
-after_of g s p q (Refused r) = []
-after_of g s p q (Got k) = listed (alone p k) ++ walk_at g s k.span.end q
+after_of g s p q (Err r) = []
+after_of g s p q (Ok k) = listed (alone p k) ++ walk_at g s k.span.end q
 
 -- a is read at `at`, and under First, where the walk stands at q, the token over `at` stands at p, and is c
 module _ (g : Reading) (s : List ℕ) (at q : ℕ) (a : Read) (ea : a ≡ next_at g s at) (z : reached_of a ≡ at → ⊥) (p : ℕ) (c : Read) (ec : c ≡ next_at (under_first g) s p)
@@ -82,7 +78,7 @@ module _ (g : Reading) (s : List ℕ) (at q : ℕ) (a : Read) (ea : a ≡ next_a
   walk_turn =
       by_read a
       (λ k e. rw (tokens_more g s at a ea k e (λ i. z (ap reached_of e ∙ i)), walk) (rw (beside, eo, e) refl))
-      (λ k e. rw (tokens_halt g s at a ea k e, walk) (rw (beside, eo, e) (sym (append-nil (listed (across g s at (Refused k) p c))))))
+      (λ k e. rw (tokens_halt g s at a ea k e, walk) (rw (beside, eo, e) (sym (append-nil (listed (across g s at (Err k) p c))))))
 
 -- the walk so far: what is left to find from `at` on, where under First the last token that was read stands at q
 pub record Walked (g : Reading) (s out₀ : List ℕ) (n₀ c₀ : ℕ) (out : List ℕ) (n count at q : ℕ) (b : Read) : Type 0 where
@@ -104,7 +100,7 @@ module _ (g : Reading) (s out₀ : List ℕ) (n₀ c₀ : ℕ) (out : List ℕ) 
   Close = ends_as (tokens_at (rules_of g) s 0)
 
   -- nothing is left to read
-  pub walk_whole : reached_of a ≡ at → Done All Close out₀ n₀ c₀ (Whole count) out
+  pub walk_whole : reached_of a ≡ at → Done All Close out₀ n₀ c₀ (Ok count) out
   unfolding walk_at walk ends_as
   walk_whole z =
       by_read a
@@ -112,7 +108,7 @@ module _ (g : Reading) (s out₀ : List ℕ) (n₀ c₀ : ℕ) (out : List ℕ) 
       let t = tokens_fin g s at a ea k e (sym (ap reached_of e) ∙ z) in
       let w : walk_at g s at q ≡ [] = rw (t, walk) refl in
       let d = left_done All Close out₀ n₀ c₀ out n count (walk_at g s at q) h.left w in
-      let c : Whole count ≡ Close count = rw (t, ends_as) at (h.ends count) in
+      let c : Ok count ≡ Close count = rw (t, ends_as) at (h.ends count) in
       (c ∙ d.0, d.1))
       (λ k e. absurd (let l = refused_past g s at a ea k e in omega arith))
 
@@ -126,25 +122,25 @@ module _ (g : Reading) (s out₀ : List ℕ) (n₀ c₀ : ℕ) (out : List ℕ) 
         across_small at (reached_of a) p (reached_of c) (omega arith) (omega arith) (omega arith) (omega arith) g s a c refl refl
 
     -- what is spotted by the side of First was noted, and answered r; the store is then o
-    module _ (x : Spotted) (ex : x ≡ across g s at a p c) (o : List ℕ) (r : Noted) (w : Note out n count x r o) where
+    module _ (x : Option Finding) (ex : x ≡ across g s at a p c) (o : List ℕ) (r : Result Noted Stopped) (w : Note out n count x r o) where
       spotted : Left All Close out₀ n₀ c₀ (listed x ++ after_of g s at p a) out n count
       spotted = rw ex (rw (← walk_turn g s at q a ea z p c ec eo) h.left)
 
-      pub turn_full : (l : Listed) → r ≡ Full l → Done All Close out₀ n₀ c₀ l o
+      pub turn_full : (l : Stopped) → r ≡ Err l → Done All Close out₀ n₀ c₀ (Err l) o
       turn_full = left_full All Close out₀ n₀ c₀ out n count (after_of g s at p a) o r x spotted w
 
-      pub turn_went : (m d : ℕ) → r ≡ Went m d → Left All Close out₀ n₀ c₀ (after_of g s at p a) o m d
+      pub turn_went : (m d : ℕ) → r ≡ Ok (noted_at m d) → Left All Close out₀ n₀ c₀ (after_of g s at p a) o m d
       turn_went = left_went All Close out₀ n₀ c₀ out n count (after_of g s at p a) o r x spotted w
 
     -- the list halts: what was noted last leaves nothing
-    pub walk_halt : (o : List ℕ) (m d : ℕ) → Left All Close out₀ n₀ c₀ (after_of g s at p a) o m d → (k : Refusal) → a ≡ Refused k → Done All Close out₀ n₀ c₀ (Stopped d k) o
+    pub walk_halt : (o : List ℕ) (m d : ℕ) → Left All Close out₀ n₀ c₀ (after_of g s at p a) o m d → (k : Refusal) → a ≡ Err k → Done All Close out₀ n₀ c₀ (listed_up_to d k) o
     unfolding ends_as
     walk_halt o m d l k e =
         let w = left_done All Close out₀ n₀ c₀ o m d (after_of g s at p a) l (ap (after_of g s at p) e) in
-        let c : Stopped d k ≡ Close d = rw (tokens_halt g s at a ea k e, ends_as) at (h.ends d) in
+        let c : listed_up_to d k ≡ Close d = rw (tokens_halt g s at a ea k e, ends_as) at (h.ends d) in
         (c ∙ w.0, w.1)
 
-    module _ (k : Token) (e : a ≡ Got k) where
+    module _ (k : Token) (e : a ≡ Ok k) where
       past : k.span.end ≡ at → ⊥
       past i = z (ap reached_of e ∙ i)
 
@@ -155,14 +151,14 @@ module _ (g : Reading) (s out₀ : List ℕ) (n₀ c₀ : ℕ) (out : List ℕ) 
       turn_less = (tokens_past g s at a ea k e past, tokens_room g s at a ea k e past)
 
       -- what the token tells by itself was noted too
-      module _ (o : List ℕ) (m d : ℕ) (l : Left All Close out₀ n₀ c₀ (after_of g s at p a) o m d) (y : Spotted) (ey : y ≡ alone at k) (o' : List ℕ) (r : Noted) (w : Note o m d y r o') where
+      module _ (o : List ℕ) (m d : ℕ) (l : Left All Close out₀ n₀ c₀ (after_of g s at p a) o m d) (y : Option Finding) (ey : y ≡ alone at k) (o' : List ℕ) (r : Result Noted Stopped) (w : Note o m d y r o') where
         told : Left All Close out₀ n₀ c₀ (listed y ++ walk_at g s k.span.end p) o m d
         told = rw ey (rw (← ap (after_of g s at p) e) l)
 
-        pub after_full : (f : Listed) → r ≡ Full f → Done All Close out₀ n₀ c₀ f o'
+        pub after_full : (f : Stopped) → r ≡ Err f → Done All Close out₀ n₀ c₀ (Err f) o'
         after_full = left_full All Close out₀ n₀ c₀ o m d (walk_at g s k.span.end p) o' r y told w
 
-        pub after_went : (m' d' : ℕ) → r ≡ Went m' d' → Left All Close out₀ n₀ c₀ (walk_at g s k.span.end p) o' m' d'
+        pub after_went : (m' d' : ℕ) → r ≡ Ok (noted_at m' d') → Left All Close out₀ n₀ c₀ (walk_at g s k.span.end p) o' m' d'
         after_went = left_went All Close out₀ n₀ c₀ o m d (walk_at g s k.span.end p) o' r y told w
 
       pub walk_more : (o : List ℕ) (m d : ℕ) → Left All Close out₀ n₀ c₀ (walk_at g s k.span.end p) o m d → Walked g s out₀ n₀ c₀ o m d k.span.end p c
@@ -186,15 +182,15 @@ module _ (g : Reading) (s out : List ℕ) where
       let z : length out - 0 ≡ length out = omega arith in
       (h.0 ∙ ap (λ (k : ℕ). answer_found (found_of g s) (ends_as (tokens_at (rules_of g) s 0)) k 0) z, h.1 ∙ ap (λ (k : ℕ). sets out 0 (words_found (found_of g s) k)) z)
 
-  module _ (x : Spotted) (ex : x ≡ mark_of (rest s 0)) (o : List ℕ) (r : Noted) (w : Note out 0 0 x r o) where
+  module _ (x : Option Finding) (ex : x ≡ mark_of (rest s 0)) (o : List ℕ) (r : Result Noted Stopped) (w : Note out 0 0 x r o) where
     first : Left (found_of g s) (ends_as (tokens_at (rules_of g) s 0)) out 0 0 (listed x ++ walk_at g s 0 0) out 0 0
     unfolding found_of
     first = rw ex (left_first (found_of g s) (ends_as (tokens_at (rules_of g) s 0)) out 0 0 (omega arith) (omega arith))
 
-    pub all_full : (l : Listed) → r ≡ Full l → Found l o
-    all_full l e = found_all l o (left_full (found_of g s) (ends_as (tokens_at (rules_of g) s 0)) out 0 0 out 0 0 (walk_at g s 0 0) o r x first w l e)
+    pub all_full : (l : Stopped) → r ≡ Err l → Found (Err l) o
+    all_full l e = found_all (Err l) o (left_full (found_of g s) (ends_as (tokens_at (rules_of g) s 0)) out 0 0 out 0 0 (walk_at g s 0 0) o r x first w l e)
 
-    module _ (m d : ℕ) (e : r ≡ Went m d) where
+    module _ (m d : ℕ) (e : r ≡ Ok (noted_at m d)) where
       pub all_went : Left (found_of g s) (ends_as (tokens_at (rules_of g) s 0)) out 0 0 (walk_at g s 0 0) o m d
       all_went = left_went (found_of g s) (ends_as (tokens_at (rules_of g) s 0)) out 0 0 out 0 0 (walk_at g s 0 0) o r x first w m d e
 
@@ -203,7 +199,7 @@ module _ (g : Reading) (s out : List ℕ) where
 
 -- the tests before, and the whole
 pub found_by_test : (g : Reading) (s : List ℕ) (room : ℕ) (t : Tested) → t ≡ source_test s
-    → (findings_of g s room ≡ after_test t (answer_found (found_of g s) (ends_as (tokens_at (rules_of g) s 0)) room 0) (Stopped 0))
+    → (findings_of g s room ≡ after_test t (answer_found (found_of g s) (ends_as (tokens_at (rules_of g) s 0)) room 0) (listed_up_to 0))
     × (stored_findings g s room ≡ after_test t (words_found (found_of g s) room) (λ r. []))
 unfolding findings_of stored_findings
 found_by_test g s room t e = (rw (← e, findings_of), rw (← e, stored_findings))

@@ -1,16 +1,17 @@
 -- How far the list in force and the one under First are the same, word for word.
-use Rattle.std.specs.Prelude.{ℕ, List, [], ◌∷◌, Bool, true, not, ltb, eqb}
+use Rattle.std.specs.Prelude.{Err, Ok, ℕ, List, [], ◌∷◌, Bool, true, not, ltb, eqb}
+use Rattle.token.specs.Reads.{Read}
+use Rattle.token.specs.Reads.{number_in}
 use Rattle.families.specs.Tokens.{Tokens, fin, halt, more}
+use Rattle.findings.specs.Findings.{code_number}
 use Rattle.findings.specs.declared.store.Finding.{Finding}
 use Rattle.laws.specs.Bools.{both, either, pick, within}
 use Rattle.numbers.specs.Kinds.{number_of}
 use Rattle.rows.specs.Rows.{row_words}
-use Rattle.token.specs.declared.read.Read.{Read}
-use Rattle.token.specs.declared.read.Read.TheVariants.{Got, Refused}
 
 -- a finding at which the two readings part
 abbrev pub parts : Finding → Bool
-parts f = within 60 61 f.code
+parts f = within 60 61 (code_number f.code)
 
 -- the place of the first of these, or e where there is none
 unfoldable pub part_at : List Finding → ℕ → ℕ
@@ -29,5 +30,5 @@ words_before e (more k ts) = pick (ltb k.span.start e) (row_words (number_of k.k
 
 -- what may be read otherwise under First: a comment of kind 3 or 4, a template, and 19, to which only templates lead
 abbrev pub parts_of : Read → Bool
-parts_of (Got k) = either (within 3 4 (number_of k.kind)) (eqb (number_of k.kind) 16)
-parts_of (Refused r) = eqb r.number 19
+parts_of (Ok k) = either (within 3 4 (number_of k.kind)) (eqb (number_of k.kind) 16)
+parts_of (Err r) = eqb (number_in r) 19

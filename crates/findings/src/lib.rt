@@ -2,8 +2,9 @@
 // words keep their content. Equal to specs/, on every source, reading and store.
 #![tactic(auto)]
 
-pub mod code;
+mod code;
 mod store;
 mod walk;
 
+pub use code::{Code, UnknownCode};
 pub use walk::findings;

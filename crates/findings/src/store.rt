@@ -1,42 +1,36 @@
 // Findings into the lent store, as long as there is room.
+ghost use Rattle.listing.specs.Listing.{stopped_at};
 ghost use Rattle.std.specs.Prelude.{◌+◌, ◌-◌, ◌≤◌, ◌≡◌, [], length};
 ghost use Rattle.std.proofs.lemmas.List.Edits.{sets};
 ghost use Rattle.findings.specs.Findings.{finding_words, listed, no_room_for, words_found};
 ghost use Rattle.findings.specs.Notes.{AllSmall, Small, noted_of};
-ghost use Rattle.listing.specs.declared.Listed.TheVariants.{Stopped};
 
-use listing::Listed;
-use token::refusal::NO_ROOM;
-use token::{Refusal, Span};
+use crate::code::Code;
+use listing::Stopped;
+use token::{Reason, Refusal, Span};
 
 // A token, from start to before end, and a stretch of the source, from one place to before another.
-#[derive(Drop)]
+#[derive(Clone, Copy)]
 pub struct Finding {
-    pub code: u32,
+    pub code: Code,
     pub start: usize,
     pub end: usize,
     pub from: usize,
     pub to: usize,
 }
 
-#[derive(Drop)]
-pub enum Spotted {
-    One { finding: Finding },
-    Nothing,
-}
-
-// How many words and findings are stored, or the answer of a call whose store is full.
-#[derive(Drop)]
-pub enum Noted {
-    Went { words: usize, count: usize },
-    Full { listed: Listed },
+// How many words and findings are stored.
+#[derive(Clone, Copy)]
+pub struct Noted {
+    pub words: usize,
+    pub count: usize,
 }
 
 fn put(store: &mut [u32], n: usize, f: Finding)
     requires { (n + 5 ≤ length store.old) × Small f }
     ensures { store.new ≡ sets store.old n (finding_words f []) }
 {
-    store[n] = f.code;
+    store[n] = u32::from(f.code);
     store[n + 1] = f.start as u32;
     store[n + 2] = f.end as u32;
     store[n + 3] = f.from as u32;
@@ -44,13 +38,13 @@ fn put(store: &mut [u32], n: usize, f: Finding)
 }
 
 // The store has no place for this one.
-fn no_room(count: usize, f: Finding) -> Listed
-    ensures { result ≡ Stopped count (no_room_for f) }
+fn no_room(count: usize, f: Finding) -> Stopped
+    ensures { result ≡ stopped_at count (no_room_for f) }
 {
-    Listed::Stopped {
+    Stopped {
         count,
         refusal: Refusal {
-            number: NO_ROOM,
+            reason: Reason::NoRoom,
             span: Span {
                 start: f.start,
                 end: f.end,
@@ -60,22 +54,25 @@ fn no_room(count: usize, f: Finding) -> Listed
     }
 }
 
-pub(crate) fn note(store: &mut [u32], n: usize, count: usize, spotted: Spotted) -> Noted
-    requires { (n ≤ length store.old) × (count ≤ n) × AllSmall spotted }
-    ensures { (result ≡ noted_of (length store.old) n count spotted)
-        × (store.new ≡ sets store.old n (words_found (listed spotted) (length store.old - n))) }
+pub(crate) fn note(
+    store: &mut [u32],
+    noted: Noted,
+    spotted: Option<Finding>,
+) -> Result<Noted, Stopped>
+    requires { (noted.words ≤ length store.old) × (noted.count ≤ noted.words) × AllSmall spotted }
+    ensures { (result ≡ noted_of (length store.old) noted spotted)
+        × (store.new ≡ sets store.old noted.words (words_found (listed spotted) (length store.old - noted.words))) }
 {
-    let Spotted::One { finding } = spotted else {
-        return Noted::Went { words: n, count };
+    let Some(finding) = spotted else {
+        return Ok(noted);
     };
-    if store.len() - n < 5 {
-        return Noted::Full {
-            listed: no_room(count, finding),
-        };
+    let Noted { words, count } = noted;
+    if store.len() - words < 5 {
+        return Err(no_room(count, finding));
     }
-    put(store, n, finding);
-    Noted::Went {
-        words: n + 5,
+    put(store, words, finding);
+    Ok(Noted {
+        words: words + 5,
         count: count + 1,
-    }
+    })
 }

@@ -1,32 +1,26 @@
 // Two readings side by side: the one in force, and the one in which the first `*/` ends a comment.
-ghost use Rattle.std.specs.Prelude.{◌-◌, ◌≤◌, ◌≡◌, length};
+ghost use Rattle.std.specs.Prelude.{◌-◌, ◌≤◌, ◌≡◌, Ok, Some, length};
 ghost use Rattle.std.proofs.lemmas.List.Edits.{sets};
 ghost use Rattle.families.specs.Tokens.{tokens_at};
 ghost use Rattle.findings.specs.Findings.{across, alike, alone, answer_found, as_code, ends_as, findings_of, found_of, from_of, holds_at, is_comment, is_white_or_comment, mark_of, onward, plain_finding, runs_on, runs_on_code, stored_findings, under_first, walk_at, words_found};
 ghost use Rattle.findings.specs.InStep.{parts_of};
-ghost use Rattle.findings.specs.declared.store.Spotted.TheVariants.{One};
 ghost use Rattle.lexer.specs.Next.{next_at};
 ghost use Rattle.readers.specs.Rules.{rules_of};
 ghost use Rattle.text.specs.Utf8.{from, rest};
 ghost use Rattle.token.specs.Reads.{reached_of};
-ghost use Rattle.token.specs.declared.read.Read.TheVariants.{Got, Refused};
 
-use crate::code::{
-    BYTE_ORDER_MARK, COMMENT_UNCLOSED, READ_AS_CODE, RUNS_ON, RUNS_ON_BLANK, TEMPLATE_UNCLOSED,
-};
-use crate::store::{Finding, Noted, Spotted, note};
-use listing::Listed;
+use crate::code::Code;
+use crate::store::{Finding, Noted, note};
+use listing::Stopped;
 use readers::{Comments, Reading};
-use source_test::Tested;
 use text::Scalar;
-use token::refusal::TOO_DEEP;
-use token::{Kind, Read, Refusal, Span, Token};
+use token::{Reason, Refusal, Token};
 
 // A place, and what is read there.
 #[derive(Clone, Copy)]
 struct Under {
     place: usize,
-    read: Read,
+    read: Result<Token, Refusal>,
 }
 
 fn under_first(reading: Reading) -> Reading
@@ -40,8 +34,7 @@ fn under_first(reading: Reading) -> Reading
 fn is_blank(token: Token) -> bool
     ensures { result ≡ is_white_or_comment token }
 {
-    let kind = token.kind;
-    numbers::number_of(kind) <= 4
+    numbers::number_of(token.kind) <= 4
 }
 
 fn is_comment(token: Token) -> bool
@@ -55,27 +48,25 @@ fn is_comment(token: Token) -> bool
     n <= 4
 }
 
-fn reached(read: Read) -> usize
+fn reached(read: Result<Token, Refusal>) -> usize
     ensures { result ≡ reached_of read }
 {
     match read {
-        Read::Got { token } => token.span.end,
-        Read::Refused { refusal } => refusal.reached,
+        Ok(token) => token.span.end,
+        Err(refusal) => refusal.reached,
     }
 }
 
-fn plain(code: u32, start: usize, end: usize) -> Spotted
-    ensures { result ≡ One (plain_finding code start end) }
+fn plain(code: Code, start: usize, end: usize) -> Option<Finding>
+    ensures { result ≡ Some (plain_finding code start end) }
 {
-    Spotted::One {
-        finding: Finding {
-            code,
-            start,
-            end,
-            from: end,
-            to: end,
-        },
-    }
+    Some(Finding {
+        code,
+        start,
+        end,
+        from: end,
+        to: end,
+    })
 }
 
 // Whether a stretch holds anything but white space and comments.
@@ -87,7 +78,7 @@ fn holds(s: &[u8], reading: Reading, from: usize, to: usize) -> bool
         if to <= p {
             return false;
         }
-        let Read::Got { token } = lexer::next(s, reading, p) else {
+        let Ok(token) = lexer::next(s, reading, p) else {
             return true;
         };
         let end = token.span.end;
@@ -101,13 +92,13 @@ fn holds(s: &[u8], reading: Reading, from: usize, to: usize) -> bool
     }
 }
 
-fn runs_on_code(s: &[u8], reading: Reading, from: usize, to: usize) -> u32
+fn runs_on_code(s: &[u8], reading: Reading, from: usize, to: usize) -> Code
     ensures { result ≡ runs_on_code reading s.now from to }
 {
     if holds(s, reading, from, to) {
-        return RUNS_ON;
+        return Code::RunsOn;
     }
-    RUNS_ON_BLANK
+    Code::RunsOnBlank
 }
 
 fn runs_on(s: &[u8], reading: Reading, at: usize, here: usize, there: usize) -> Finding
@@ -131,79 +122,72 @@ fn runs_on(s: &[u8], reading: Reading, at: usize, here: usize, there: usize) -> 
     }
 }
 
-fn alike_refused(a: Refusal, b: Refusal) -> bool
-    ensures { result ≡ alike (Refused a) (Refused b) }
-{
-    if a.number != b.number {
-        return false;
-    }
-    if a.span.start != b.span.start {
-        return false;
-    }
-    if a.span.end != b.span.end {
-        return false;
-    }
-    a.reached == b.reached
-}
-
+// Two tokens that a list stores alike: where they start it does not matter here, nor whether a mark closed a template.
 fn alike_got(a: Token, b: Token) -> bool
-    ensures { result ≡ alike (Got a) (Got b) }
+    ensures { result ≡ alike (Ok a) (Ok b) }
 {
-    let k = a.kind;
-    let j = b.kind;
-    if numbers::number_of(k) != numbers::number_of(j) {
+    if numbers::number_of(a.kind) != numbers::number_of(b.kind) {
         return false;
     }
     a.span.end == b.span.end
 }
 
-fn alike(a: Read, b: Read) -> bool
+fn alike(a: Result<Token, Refusal>, b: Result<Token, Refusal>) -> bool
     ensures { result ≡ alike a b }
 {
     match a {
-        Read::Got { token } => {
-            let Read::Got { token: other } = b else {
+        Ok(token) => {
+            let Ok(other) = b else {
                 return false;
             };
             alike_got(token, other)
         }
-        Read::Refused { refusal } => {
-            let Read::Refused { refusal: other } = b else {
+        Err(refusal) => {
+            let Err(other) = b else {
                 return false;
             };
-            alike_refused(refusal, other)
+            refusal == other
         }
     }
 }
 
-fn as_code(at: usize, a: Read, place: usize, b: Read) -> Spotted
+fn as_code(
+    at: usize,
+    a: Result<Token, Refusal>,
+    place: usize,
+    b: Result<Token, Refusal>,
+) -> Option<Finding>
     ensures { result ≡ as_code at a place b }
 {
-    let Read::Got { token } = a else {
-        return Spotted::Nothing;
+    let Ok(token) = a else {
+        return None;
     };
-    let Read::Got { token: other } = b else {
-        return Spotted::Nothing;
+    let Ok(other) = b else {
+        return None;
     };
     if !is_comment(other) {
-        return Spotted::Nothing;
+        return None;
     }
     if is_blank(token) {
-        return Spotted::Nothing;
+        return None;
     }
-    Spotted::One {
-        finding: Finding {
-            code: READ_AS_CODE,
-            start: at,
-            end: token.span.end,
-            from: place,
-            to: other.span.end,
-        },
-    }
+    Some(Finding {
+        code: Code::ReadAsCode,
+        start: at,
+        end: token.span.end,
+        from: place,
+        to: other.span.end,
+    })
 }
 
 // What the answer at a place tells beside the one under First.
-fn across(s: &[u8], reading: Reading, at: usize, a: Read, under: Under) -> Spotted
+fn across(
+    s: &[u8],
+    reading: Reading,
+    at: usize,
+    a: Result<Token, Refusal>,
+    under: Under,
+) -> Option<Finding>
     ensures { result ≡ across reading s.now at a under.place under.read }
 {
     let b = under.read;
@@ -211,50 +195,48 @@ fn across(s: &[u8], reading: Reading, at: usize, a: Read, under: Under) -> Spott
         return as_code(at, a, under.place, b);
     }
     if alike(a, b) {
-        return Spotted::Nothing;
+        return None;
     }
-    Spotted::One {
-        finding: runs_on(s, reading, at, reached(a), reached(b)),
-    }
+    Some(runs_on(s, reading, at, reached(a), reached(b)))
 }
 
 // What a token tells by itself.
-fn alone(at: usize, token: Token) -> Spotted
+fn alone(at: usize, token: Token) -> Option<Finding>
     ensures { result ≡ alone at token }
 {
     let kind = token.kind;
     let end = token.span.end;
     let n = numbers::number_of(kind);
     if n == 4 {
-        return plain(COMMENT_UNCLOSED, at, end);
+        return plain(Code::CommentUnclosed, at, end);
     }
     if n != 16 {
-        return Spotted::Nothing;
+        return None;
     }
     if marks::closes(kind) != 0 {
-        return Spotted::Nothing;
+        return None;
     }
-    plain(TEMPLATE_UNCLOSED, at, end)
+    plain(Code::TemplateUnclosed, at, end)
 }
 
-fn mark(s: &[u8]) -> Spotted
+fn mark(s: &[u8]) -> Option<Finding>
     ensures { result ≡ mark_of (rest s.now 0) }
 {
-    let Scalar::One { value, next: _ } = text::scalar_at(s, 0) else {
-        return Spotted::Nothing;
+    let Some(Scalar { value, next: _ }) = text::scalar_at(s, 0) else {
+        return None;
     };
     if value != 0xFEFF {
-        return Spotted::Nothing;
+        return None;
     }
-    plain(BYTE_ORDER_MARK, 0, 3)
+    plain(Code::ByteOrderMark, 0, 3)
 }
 
 // A comment, a template, or 19: nothing else is read otherwise under First.
-fn parts(a: Read) -> bool
+fn parts(a: Result<Token, Refusal>) -> bool
     ensures { result ≡ parts_of a }
 {
     match a {
-        Read::Got { token } => {
+        Ok(token) => {
             let kind = token.kind;
             let n = numbers::number_of(kind);
             if n == 16 {
@@ -265,12 +247,18 @@ fn parts(a: Read) -> bool
             }
             n <= 4
         }
-        Read::Refused { refusal } => refusal.number == TOO_DEEP,
+        Err(refusal) => refusal.reason == Reason::TooDeep,
     }
 }
 
 // What is read under First at a place, where a is read at `at`: mostly the same, and then it is not read again.
-fn read_under(s: &[u8], reading: Reading, at: usize, a: Read, place: usize) -> Read
+fn read_under(
+    s: &[u8],
+    reading: Reading,
+    at: usize,
+    a: Result<Token, Refusal>,
+    place: usize,
+) -> Result<Token, Refusal>
     requires { a ≡ next_at reading s.now at }
     ensures { result ≡ next_at (under_first reading) s.now place }
 {
@@ -283,7 +271,7 @@ fn read_under(s: &[u8], reading: Reading, at: usize, a: Read, place: usize) -> R
 }
 
 // Under First, on to the token that covers a place.
-fn onward(s: &[u8], reading: Reading, at: usize, a: Read, under: Under) -> Under
+fn onward(s: &[u8], reading: Reading, at: usize, a: Result<Token, Refusal>, under: Under) -> Under
     requires { (under.read ≡ next_at (under_first reading) s.now under.place) × (under.place ≤ length s.now) × (a ≡ next_at reading s.now at) }
     ensures { (result.read ≡ next_at (under_first reading) s.now result.place)
         × (result.place ≤ length s.now)
@@ -292,7 +280,7 @@ fn onward(s: &[u8], reading: Reading, at: usize, a: Read, under: Under) -> Under
     let mut place = under.place;
     let mut read = under.read;
     loop {
-        let Read::Got { token } = read else {
+        let Ok(token) = read else {
             return Under { place, read };
         };
         let end = token.span.end;
@@ -307,13 +295,17 @@ fn onward(s: &[u8], reading: Reading, at: usize, a: Read, under: Under) -> Under
     }
 }
 
-fn find_tokens(s: &[u8], reading: Reading, store: &mut [u32], words: usize, found: usize) -> Listed
-    requires { (length s.now ≤ 65536) × (words ≤ length store.old) × (found ≤ words) }
-    ensures { (result ≡ answer_found (walk_at reading s.now 0 0) (ends_as (tokens_at (rules_of reading) s.now 0)) (length store.old - words) found)
-        × (store.new ≡ sets store.old words (words_found (walk_at reading s.now 0 0) (length store.old - words))) }
+fn find_tokens(
+    s: &[u8],
+    reading: Reading,
+    store: &mut [u32],
+    first: Noted,
+) -> Result<usize, Stopped>
+    requires { (length s.now ≤ 65536) × (first.words ≤ length store.old) × (first.count ≤ first.words) }
+    ensures { (result ≡ answer_found (walk_at reading s.now 0 0) (ends_as (tokens_at (rules_of reading) s.now 0)) (length store.old - first.words) first.count)
+        × (store.new ≡ sets store.old first.words (words_found (walk_at reading s.now 0 0) (length store.old - first.words))) }
 {
-    let mut n = words;
-    let mut count = found;
+    let mut noted = first;
     let mut at: usize = 0;
     let mut under = Under {
         place: 0,
@@ -322,59 +314,35 @@ fn find_tokens(s: &[u8], reading: Reading, store: &mut [u32], words: usize, foun
     loop {
         let a = lexer::next(s, reading, at);
         if reached(a) == at {
-            return Listed::Whole { count };
+            return Ok(noted.count);
         }
-        let beside = onward(s, reading, at, a, under);
-        match note(store, n, count, across(s, reading, at, a, beside)) {
-            Noted::Full { listed } => {
-                return listed;
-            }
-            Noted::Went {
-                words: words1,
-                count: count1,
-            } => match a {
-                Read::Refused { refusal } => {
-                    return Listed::Stopped {
-                        count: count1,
-                        refusal,
-                    };
-                }
-                Read::Got { token } => match note(store, words1, count1, alone(at, token)) {
-                    Noted::Full { listed } => {
-                        return listed;
-                    }
-                    Noted::Went {
-                        words: words2,
-                        count: count2,
-                    } => {
-                        n = words2;
-                        count = count2;
-                        at = token.span.end;
-                        under = beside;
-                    }
-                },
-            },
-        }
+        under = onward(s, reading, at, a, under);
+        noted = note(store, noted, across(s, reading, at, a, under))?;
+        let Ok(token) = a else {
+            return Err(Stopped {
+                count: noted.count,
+                refusal: a.unwrap_err(),
+            });
+        };
+        noted = note(store, noted, alone(at, token))?;
+        at = token.span.end;
     }
 }
 
-fn find_all(s: &[u8], reading: Reading, store: &mut [u32]) -> Listed
+fn find_all(s: &[u8], reading: Reading, store: &mut [u32]) -> Result<usize, Stopped>
     requires { length s.now ≤ 65536 }
     ensures { (result ≡ answer_found (found_of reading s.now) (ends_as (tokens_at (rules_of reading) s.now 0)) (length store.old) 0)
         × (store.new ≡ sets store.old 0 (words_found (found_of reading s.now) (length store.old))) }
 {
-    match note(store, 0, 0, mark(s)) {
-        Noted::Full { listed } => listed,
-        Noted::Went { words, count } => find_tokens(s, reading, store, words, count),
-    }
+    let none = Noted { words: 0, count: 0 };
+    let noted = note(store, none, mark(s))?;
+    find_tokens(s, reading, store, noted)
 }
 
-pub fn findings(s: &[u8], reading: Reading, store: &mut [u32]) -> Listed
+pub fn findings(s: &[u8], reading: Reading, store: &mut [u32]) -> Result<usize, Stopped>
     ensures { (result ≡ findings_of reading s.now (length store.old))
         × (store.new ≡ sets store.old 0 (stored_findings reading s.now (length store.old))) }
 {
-    match source_test::test_source(s) {
-        Tested::Sound => find_all(s, reading, store),
-        Tested::Unsound { refusal } => Listed::Stopped { count: 0, refusal },
-    }
+    source_test::test_source(s)?;
+    find_all(s, reading, store)
 }

@@ -1,4 +1,5 @@
 -- What the code's tests say of the scalar that begins an item. Assumes nothing.
+use Rattle.token.specs.declared.reason.Reason.TheVariants.{NotAscii}
 use Prim.Native.Nat.{ℕ, ◌≤◌, ◌<◌}
 use mathlib.Core.Path.{◌≡◌, ap, ap₂}
 use mathlib.Core.List.{List}
@@ -19,7 +20,7 @@ module _ (form : Form) (v : ℕ) (cs : List ℕ) (p : ℕ) where
   item_char k h d e = rw (eq-eqb v 0x5c h, k) (ap₂ (λ (x y : Bool). char_escape x (not y) cs p) d e)
 
   module _ (h : v ≡ 0x5c → ⊥) where
-    pub item_high : is_bytes form ≡ true → 0x7f < v → Bad 25 p ≡ item_of form v cs p
+    pub item_high : is_bytes form ≡ true → 0x7f < v → Bad NotAscii p ≡ item_of form v cs p
     unfolding item_of
     item_high k l = rw (ne_eqb v 0x5c h, k, lt-ltb 0x7f v l)
 

@@ -1,4 +1,5 @@
 -- What an item is, and that its bytes are no more than those that it was read from. Assumes nothing.
+use Rattle.token.specs.declared.reason.Reason.TheVariants.{BadByteEscape, BadHexEscapeChar, BadUnicodeEscape}
 use Prim.Native.Nat.{ℕ, ◌+◌, ◌*◌, ◌≤◌, ◌<◌}
 use mathlib.Core.Path.{◌≡◌, sym, ap, ◌∙◌, subst}
 use mathlib.Core.List.{List, [], ◌∷◌}
@@ -65,7 +66,7 @@ shared_low v p =
     (pick_of Low (eqb v 0x30) _ _ (omega arith) tt))))))
 
 only_low : (e : Escape) → Low (low_only e)
-only_low (Item x n) = pick_by Low (leb x 0x7f) (Item x n) (Bad 23 n) (λ h. leb-true x 0x7f h) tt
+only_low (Item x n) = pick_by Low (leb x 0x7f) (Item x n) (Bad BadHexEscapeChar n) (λ h. leb-true x 0x7f h) tt
 only_low (Skipped n) = tt
 only_low (Bad number n) = tt
 
@@ -82,7 +83,7 @@ digits_later b p v (Skipped n) h = tt
 digits_later b p v (Bad number n) h = tt
 
 digits_close_item : (b : Bool) (x p v : ℕ) → Digits b p (close_of b x (p + width v))
-digits_close_item true x p v = pick_by (Digits true p) (is_scalar x) (Item x (p + width v)) (Bad 22 (p + width v)) (λ h. (h, omega (arith, width_pos v))) tt
+digits_close_item true x p v = pick_by (Digits true p) (is_scalar x) (Item x (p + width v)) (Bad BadUnicodeEscape (p + width v)) (λ h. (h, omega (arith, width_pos v))) tt
 digits_close_item false x p v = tt
 
 digits_item : (b : Bool) (x : ℕ) (cs : List ℕ) (p : ℕ) → Digits b p (digits_of b x cs p)
@@ -99,13 +100,13 @@ module _ (p q : ℕ) (l : p < q) where
   unfolding hex_second
   second_byte x [] r k h = tt
   second_byte x (v ∷ cs) r k h =
-      pick_of (ByteItem p) (is_hex_digit v) (Item (x * 16 + hex_value v) (r + width v)) (Bad 24 (r + width v)) (omega (arith, hex_small v), omega arith) tt
+      pick_of (ByteItem p) (is_hex_digit v) (Item (x * 16 + hex_value v) (r + width v)) (Bad BadByteEscape (r + width v)) (omega (arith, hex_small v), omega arith) tt
 
   hex_byte : (cs : List ℕ) → ByteItem p (hex_of cs q)
   unfolding hex_of
   hex_byte [] = tt
   hex_byte (v ∷ cs) =
-      pick_of (ByteItem p) (is_hex_digit v) (hex_second (hex_value v) cs (q + width v)) (Bad 24 (q + width v)) (second_byte (hex_value v) cs (q + width v) (omega arith) (hex_small v)) tt
+      pick_of (ByteItem p) (is_hex_digit v) (hex_second (hex_value v) cs (q + width v)) (Bad BadByteEscape (q + width v)) (second_byte (hex_value v) cs (q + width v) (omega arith) (hex_small v)) tt
 
   line_byte : (b : Bool) (cs : List ℕ) → ByteItem p (line_end b cs q)
   line_byte true cs = tt
@@ -128,7 +129,7 @@ module _ (p q : ℕ) (l : p < q) where
   unfolding unicode_of
   unicode_char [] = tt
   unicode_char (v ∷ cs) =
-      pick_of (CharItem p) (eqb v 0x7b) (digits_of false 0 cs (q + width v)) (Bad 22 (q + width v))
+      pick_of (CharItem p) (eqb v 0x7b) (digits_of false 0 cs (q + width v)) (Bad BadUnicodeEscape (q + width v))
       (digits_char v (digits_of false 0 cs (q + width v)) (digits_item false 0 cs (q + width v))) tt
 
   low_hex_char : (cs : List ℕ) → CharItem p (low_only (hex_of cs q))

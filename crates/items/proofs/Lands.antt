@@ -1,4 +1,5 @@
 -- Every escape ends at a scalar's place, so a body goes on there. Assumes nothing.
+use Rattle.token.specs.declared.reason.Reason.TheVariants.{BadByteEscape, BadEscapeSequence, BadHexEscapeChar, BadUnicodeEscape, NotAscii}
 use Prim.Native.Nat.{ℕ, ◌+◌, ◌*◌, ◌≤◌}
 use mathlib.Core.Path.{◌≡◌, refl, sym, subst}
 use mathlib.Core.List.{List, [], ◌∷◌}
@@ -74,7 +75,7 @@ shared_place v p =
     (pick_of At (eqb v 0x30) _ _ refl refl))))))
 
 low_place : (e : Escape) → place_of (low_only e) ≡ place_of e
-low_place (Item x n) = pick_of (λ (e : Escape). place_of e ≡ n) (leb x 0x7f) (Item x n) (Bad 23 n) refl refl
+low_place (Item x n) = pick_of (λ (e : Escape). place_of e ≡ n) (leb x 0x7f) (Item x n) (Bad BadHexEscapeChar n) refl refl
 low_place (Skipped n) = refl
 low_place (Bad number n) = refl
 
@@ -85,25 +86,25 @@ Past cs p e = Lands cs p (place_of e)
 pub second_lands : (x : ℕ) (cs : List ℕ) (p : ℕ) → Lands cs p (place_of (hex_second x cs p))
 unfolding hex_second
 second_lands x [] p = refl
-second_lands x (v ∷ cs) p = pick_of (Past (v ∷ cs) p) (is_hex_digit v) (Item (x * 16 + hex_value v) (p + width v)) (Bad 24 (p + width v)) (inr (here cs (p + width v))) (inr (here cs (p + width v)))
+second_lands x (v ∷ cs) p = pick_of (Past (v ∷ cs) p) (is_hex_digit v) (Item (x * 16 + hex_value v) (p + width v)) (Bad BadByteEscape (p + width v)) (inr (here cs (p + width v))) (inr (here cs (p + width v)))
 
 pub hex_lands : (cs : List ℕ) (p : ℕ) → Lands cs p (place_of (hex_of cs p))
 unfolding hex_of
 hex_lands [] p = refl
-hex_lands (v ∷ cs) p = pick_of (Past (v ∷ cs) p) (is_hex_digit v) (hex_second (hex_value v) cs (p + width v)) (Bad 24 (p + width v)) (inr (second_lands (hex_value v) cs (p + width v))) (inr (here cs (p + width v)))
+hex_lands (v ∷ cs) p = pick_of (Past (v ∷ cs) p) (is_hex_digit v) (hex_second (hex_value v) cs (p + width v)) (Bad BadByteEscape (p + width v)) (inr (second_lands (hex_value v) cs (p + width v))) (inr (here cs (p + width v)))
 
 pub digits_lands : (b : Bool) (x : ℕ) (cs : List ℕ) (p : ℕ) → Lands cs p (place_of (digits_of b x cs p))
 unfolding digits_of
 digits_lands b x [] p = refl
 digits_lands b x (v ∷ cs) p =
     split (eqb v 0x7d)
-    (λ h. rw (h, digits_of) (pick_of (Past (v ∷ cs) p) (both b (is_scalar x)) (Item x (p + width v)) (Bad 22 (p + width v)) (inr (here cs (p + width v))) (inr (here cs (p + width v)))))
+    (λ h. rw (h, digits_of) (pick_of (Past (v ∷ cs) p) (both b (is_scalar x)) (Item x (p + width v)) (Bad BadUnicodeEscape (p + width v)) (inr (here cs (p + width v))) (inr (here cs (p + width v)))))
     (λ h. split (is_hex_digit v) (λ k. rw (h, k, digits_of) (inr (digits_lands true (shift_in x v) cs (p + width v)))) (λ k. rw (h, k, digits_of) (inr (here cs (p + width v)))))
 
 pub unicode_lands : (cs : List ℕ) (p : ℕ) → Lands cs p (place_of (unicode_of cs p))
 unfolding unicode_of
 unicode_lands [] p = refl
-unicode_lands (v ∷ cs) p = pick_of (Past (v ∷ cs) p) (eqb v 0x7b) (digits_of false 0 cs (p + width v)) (Bad 22 (p + width v)) (inr (digits_lands false 0 cs (p + width v))) (inr (here cs (p + width v)))
+unicode_lands (v ∷ cs) p = pick_of (Past (v ∷ cs) p) (eqb v 0x7b) (digits_of false 0 cs (p + width v)) (Bad BadUnicodeEscape (p + width v)) (inr (digits_lands false 0 cs (p + width v))) (inr (here cs (p + width v)))
 
 module _ (cs : List ℕ) (p : ℕ) where
   at_place : (e : Escape) → place_of e ≡ p → Lands cs p (place_of e)
@@ -117,7 +118,7 @@ module _ (cs : List ℕ) (p : ℕ) where
   low_lands = subst (λ (r : ℕ). Lands cs p r) (sym (low_place (hex_of cs p))) (hex_lands cs p)
 
   template_lands : (m : Bool) (v : ℕ) → Lands cs p (place_of (only_in_template m v p))
-  template_lands m v = at_place (only_in_template m v p) (pick_of (λ (e : Escape). place_of e ≡ p) m (Item v p) (Bad 20 p) refl refl)
+  template_lands m v = at_place (only_in_template m v p) (pick_of (λ (e : Escape). place_of e ≡ p) m (Item v p) (Bad BadEscapeSequence p) refl refl)
 
   byte_turn_lands : (l : Bool) (v : ℕ) → Lands cs p (place_of (byte_turn l v cs p))
   unfolding byte_turn
@@ -152,4 +153,4 @@ unfolding item_of
 item_lands form v cs p =
     pick_of (Past cs p) (eqb v 0x5c) (escape_of form cs p) (plain_of form v p)
     (pick_of (Past cs p) (is_bytes form) _ _ (byte_lands (not (is_single form)) cs p) (char_lands (is_template form) (not (is_single form)) cs p))
-    (pick_of (Past cs p) (both (is_bytes form) (ltb 0x7f v)) (Bad 25 p) (Item v p) (here cs p) (here cs p))
+    (pick_of (Past cs p) (both (is_bytes form) (ltb 0x7f v)) (Bad NotAscii p) (Item v p) (here cs p) (here cs p))

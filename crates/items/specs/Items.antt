@@ -1,4 +1,5 @@
 -- Document 01, "Escapes": the forms of a body, what a scalar of it begins, and the bytes of an item.
+use Rattle.token.specs.declared.reason.Reason.TheVariants.{NotAscii}
 use Rattle.std.specs.Prelude.{ℕ, List, [], ◌∷◌, Bool, true, false, not, ltb, eqb}
 use Rattle.encoding.specs.Encode.{encode_of}
 use Rattle.escapes.specs.Escapes.{byte_escape, char_escape}
@@ -33,7 +34,7 @@ is_single Byte = true
 
 -- a scalar that is no backslash stands for itself; 25 above U+007F in bytes
 abbrev pub plain_of : Form → ℕ → ℕ → Escape
-plain_of form v p = pick (both (is_bytes form) (ltb 0x7f v)) (Bad 25 p) (Item v p)
+plain_of form v p = pick (both (is_bytes form) (ltb 0x7f v)) (Bad NotAscii p) (Item v p)
 
 abbrev pub escape_of : Form → List ℕ → ℕ → Escape
 escape_of form cs p = pick (is_bytes form) (byte_escape (not (is_single form)) cs p) (char_escape (is_template form) (not (is_single form)) cs p)

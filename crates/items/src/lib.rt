@@ -7,10 +7,10 @@ ghost use Rattle.text.specs.Utf8.{rest};
 
 use escapes::{Escape, parse_byte_escape, parse_char_escape};
 use text::character::BACKSLASH;
-use token::refusal::NOT_ASCII;
+use token::Reason;
 
 // How a body is read. A char or a byte is one item.
-#[derive(Clone, Copy)]
+#[derive(Clone, Copy, PartialEq, Eq)]
 pub enum Form {
     Text,
     Template,
@@ -19,60 +19,42 @@ pub enum Form {
     Byte,
 }
 
-pub fn is_bytes(form: Form) -> bool
-    ensures { result ≡ is_bytes form }
-{
-    match form {
-        Form::Text => false,
-        Form::Template => false,
-        Form::Char => false,
-        Form::ByteText => true,
-        Form::Byte => true,
+impl Form {
+    pub fn is_bytes(self) -> bool
+        ensures { result ≡ is_bytes self }
+    {
+        matches!(self, Form::ByteText | Form::Byte)
     }
-}
 
-pub fn is_single(form: Form) -> bool
-    ensures { result ≡ is_single form }
-{
-    match form {
-        Form::Text => false,
-        Form::Template => false,
-        Form::Char => true,
-        Form::ByteText => false,
-        Form::Byte => true,
+    pub fn is_single(self) -> bool
+        ensures { result ≡ is_single self }
+    {
+        matches!(self, Form::Char | Form::Byte)
     }
-}
 
-pub fn is_template(form: Form) -> bool
-    ensures { result ≡ is_template form }
-{
-    match form {
-        Form::Text => false,
-        Form::Template => true,
-        Form::Char => false,
-        Form::ByteText => false,
-        Form::Byte => false,
+    pub fn is_template(self) -> bool
+        ensures { result ≡ is_template self }
+    {
+        matches!(self, Form::Template)
     }
 }
 
 // What the scalar v begins; `next` is the place after it.
+#[tactic(auto, using(crate::proofs::Begins::item_byte, crate::proofs::Begins::item_char, crate::proofs::Begins::item_high, crate::proofs::Begins::item_low, crate::proofs::Begins::item_plain))]
 pub fn item_at(s: &[u8], form: Form, v: u32, next: usize) -> Escape
     ensures { result ≡ item_of form v (rest s.now next) next }
 {
-    if is_bytes(form) {
-        if v == BACKSLASH {
-            return parse_byte_escape(s, next, !is_single(form));
-        }
-        if 0x7f < v {
-            return Escape::Bad {
-                number: NOT_ASCII,
-                next,
-            };
-        }
-        return Escape::Item { value: v, next };
-    }
     if v == BACKSLASH {
-        return parse_char_escape(s, next, is_template(form), !is_single(form));
+        if form.is_bytes() {
+            return parse_byte_escape(s, next, !form.is_single());
+        }
+        return parse_char_escape(s, next, form.is_template(), !form.is_single());
+    }
+    if form.is_bytes() && 0x7f < v {
+        return Escape::Bad {
+            reason: Reason::NotAscii,
+            next,
+        };
     }
     Escape::Item { value: v, next }
 }

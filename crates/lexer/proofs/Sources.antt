@@ -1,4 +1,6 @@
 -- The shebang, refusal 12's span and the tests before reading, as the code makes them. Assumes nothing.
+use Rattle.std.specs.Prelude.{Err, Ok}
+use Rattle.token.specs.declared.reason.Reason.TheVariants.{ExpectedCharClose}
 use Prim.Native.Nat.{ℕ, ◌+◌}
 use mathlib.Core.Path.{◌≡◌, refl, sym, ap, ◌∙◌, subst}
 use mathlib.Core.List.{List, [], ◌∷◌}
@@ -13,14 +15,11 @@ use Rattle.readers.specs.Readers.{in_line, line_of, run}
 use Rattle.readers.specs.Rules.{rules_of}
 use Rattle.readers.specs.declared.reading.Reading.{Reading}
 use Rattle.source_test.specs.Source.{after_test, position_test}
-use Rattle.source_test.specs.declared.Tested.{Tested}
 use Rattle.text.proofs.Decode.{Step, rest_tail}
 use Rattle.text.proofs.Leads.{width_1}
 use Rattle.text.specs.Utf8.{rest, width}
-use Rattle.token.specs.Reads.{got_of, refused_of}
+use Rattle.token.specs.Reads.{got_of, refused_of, Read, Tested, number_in}
 use Rattle.token.specs.declared.kind.Kind.TheVariants.{Shebang}
-use Rattle.token.specs.declared.read.Read.{Read}
-use Rattle.token.specs.declared.read.Read.TheVariants.{Got, Refused}
 use Rattle.token.specs.declared.read.Refusal.{Refusal}
 use Rattle.token.specs.declared.read.Token.{Token}
 
@@ -39,13 +38,13 @@ module _ (s : List ℕ) where
       pub bang_second : (w m : ℕ) → Step s n w m → eqb w 33 ≡ is_shebang (rest s 0)
       bang_second w m u = rw (t.here, u.here, eq-eqb v 35 h)
 
-pub close_other : (n : ℕ) (r : Read) (k : Refusal) → r ≡ Refused k → (k.number ≡ 12 → ⊥) → r ≡ close_span n r
-close_other n r k e h = rw (e, ne_eqb k.number 12 h)
+pub close_other : (n : ℕ) (r : Read) (k : Refusal) → r ≡ Err k → (number_in k ≡ 12 → ⊥) → r ≡ close_span n r
+close_other n r k e h = rw (e, ne_eqb (number_in k) 12 h)
 
-pub close_empty : (n : ℕ) (r : Read) (k : Refusal) → r ≡ Refused k → k.number ≡ 12 → refused_of 12 k.span.start n k.reached ≡ close_span n r
-close_empty n r k e h = rw (e, eq-eqb k.number 12 h)
+pub close_empty : (n : ℕ) (r : Read) (k : Refusal) → r ≡ Err k → number_in k ≡ 12 → refused_of ExpectedCharClose k.span.start n k.reached ≡ close_span n r
+close_empty n r k e h = rw (e, eq-eqb (number_in k) 12 h)
 
-pub close_got : (n : ℕ) (r : Read) (k : Token) → r ≡ Got k → r ≡ close_span n r
+pub close_got : (n : ℕ) (r : Read) (k : Token) → r ≡ Ok k → r ≡ close_span n r
 close_got n r k e = rw e
 
 -- `#!` takes two bytes
@@ -80,6 +79,6 @@ later_next g s at h = later_token g s at (later_none s at h)
 pub no_shebang : (s : List ℕ) (at : ℕ) → at ≡ 0 → is_shebang (rest s 0) ≡ false → both (eqb at 0) (is_shebang (rest s at)) ≡ false
 no_shebang s at z h = subst (λ (x : ℕ). both (eqb x 0) (is_shebang (rest s x)) ≡ false) (sym z) h
 
-pub read_case : (g : Reading) (s : List ℕ) (at : ℕ) (q : Tested) → q ≡ position_test s at → read_at g s at ≡ after_test q (next_at g s at) Refused
+pub read_case : (g : Reading) (s : List ℕ) (at : ℕ) (q : Tested) → q ≡ position_test s at → read_at g s at ≡ after_test q (next_at g s at) Err
 unfolding read_at
 read_case g s at q e = rw (← e, read_at)

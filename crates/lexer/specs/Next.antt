@@ -1,5 +1,6 @@
 -- A token of a source: the shebang at position 0, the source's end in refusal 12's span, and the tests 1, 2 and 4 before reading.
-use Rattle.std.specs.Prelude.{ℕ, List, [], ◌∷◌, Bool, false, eqb, length}
+use Rattle.std.specs.Prelude.{Err, Ok, ℕ, List, [], ◌∷◌, Bool, false, eqb, length}
+use Rattle.token.specs.declared.reason.Reason.TheVariants.{ExpectedCharClose}
 use Rattle.choice.specs.Rule.{behind_one, next_is}
 use Rattle.laws.specs.Bools.{both, pick}
 use Rattle.readers.specs.Readers.{line_of}
@@ -9,10 +10,8 @@ use Rattle.source_test.specs.Source.{after_test, position_test}
 use Rattle.templates.specs.Body.{token_of}
 use Rattle.text.specs.Characters.{bang, hash}
 use Rattle.text.specs.Utf8.{rest}
-use Rattle.token.specs.Reads.{refused_of}
+use Rattle.token.specs.Reads.{refused_of, Read, number_in}
 use Rattle.token.specs.declared.kind.Kind.TheVariants.{Shebang}
-use Rattle.token.specs.declared.read.Read.{Read}
-use Rattle.token.specs.declared.read.Read.TheVariants.{Got, Refused}
 
 abbrev pub is_shebang : List ℕ → Bool
 is_shebang [] = false
@@ -24,8 +23,8 @@ shebang_of R cs p = behind_one R (λ ds q. behind_one R (line_of R.stride Sheban
 
 -- 12's span ends where the source does, at n
 abbrev pub close_span : ℕ → Read → Read
-close_span n (Got k) = Got k
-close_span n (Refused r) = pick (eqb r.number 12) (refused_of 12 r.span.start n r.reached) (Refused r)
+close_span n (Ok k) = Ok k
+close_span n (Err r) = pick (eqb (number_in r) 12) (refused_of ExpectedCharClose r.span.start n r.reached) (Err r)
 
 -- the token at p of a source that ends at n, where no shebang stands; cs are the scalars from p on
 abbrev pub past_start_of : Rules → ℕ → List ℕ → ℕ → Read
@@ -43,4 +42,4 @@ past_start_at g s at = past_start_of (rules_of g) (length s) (rest s at) at
 
 -- 1, 2 and 4 in this order, then reading
 unfoldable pub read_at : Reading → List ℕ → ℕ → Read
-read_at g s at = after_test (position_test s at) (next_at g s at) Refused
+read_at g s at = after_test (position_test s at) (next_at g s at) Err

@@ -1,17 +1,17 @@
--- Document 01's examples of the lister's lines, computed. Assumes nothing.
-use mathlib.Core.Path.{◌≡◌, refl}
-use mathlib.Core.List.{[], ◌∷◌}
-use Rattle.lines.specs.Lines.{decimal_in, end_line, refused_line, token_line}
+-- Examples of the lister's lines, computed. Assumes nothing.
+use Rattle.std.proofs.Common.{◌≡◌, refl}
+use Rattle.std.specs.Prelude.{codes}
+use Rattle.std.specs.Fmt.{digits}
+use Rattle.lines.specs.Lines.{end_line, refused_line, token_line}
 
--- `10 0 4`, `refused 13 4 5` and `end 2`
-pub three_shown : token_line 10 0 4 ≡ 49 ∷ 48 ∷ 32 ∷ 48 ∷ 32 ∷ 52 ∷ 10 ∷ []
-unfolding decimal_in
+pub three_shown : token_line 10 0 4 ≡ codes "10 0 4\n"
+unfolding digits
 three_shown = refl
 
-pub refused_shown : refused_line 13 4 5 ≡ 114 ∷ 101 ∷ 102 ∷ 117 ∷ 115 ∷ 101 ∷ 100 ∷ 32 ∷ 49 ∷ 51 ∷ 32 ∷ 52 ∷ 32 ∷ 53 ∷ 10 ∷ []
-unfolding decimal_in
+pub refused_shown : refused_line 13 4 5 ≡ codes "refused 13 4 5\n"
+unfolding digits
 refused_shown = refl
 
-pub end_shown : end_line 2 ≡ 101 ∷ 110 ∷ 100 ∷ 32 ∷ 50 ∷ 10 ∷ []
-unfolding decimal_in
+pub end_shown : end_line 2 ≡ codes "end 2\n"
+unfolding digits
 end_shown = refl

@@ -2,37 +2,38 @@
 #![tactic(auto)]
 
 use buffer::fault::tell;
-use buffer::{Filled, Streams, output_to};
-use readers::{Chosen, Reading};
+use buffer::{Ending, Streams, Writer};
+use readers::Reading;
 
-// How the program ends, in the words of buffer::leave.
-fn list(streams: Streams, s: &[u8], reading: Reading) -> u8 {
-    let mut to = output_to(streams.to);
-    let mut out = [0u8; 65536];
-    let printed = printing::list(&mut to, s, reading, &mut out, 0);
-    if !buffer::flush(&mut to, &out, printed.waiting) {
+fn list(streams: Streams, s: &[u8], reading: Reading) -> Ending {
+    let mut out = Writer::<65536>::new(streams.to);
+    let listed = printing::list(&mut out, s, reading);
+    if let Err(error) = out.flush() {
         tell(
             streams.err,
             b"lister: cannot write to standard output",
-            to.fault,
+            error,
         );
-        return 2;
+        return Ending::Failed;
     }
-    if printed.refused { 1 } else { 0 }
+    match listed {
+        Ok(()) => Ending::Clean,
+        Err(_) => Ending::Told,
+    }
 }
 
-fn read_and_list(streams: Streams, reading: Reading) -> u8 {
+// The outliner has its like: the two differ in what they do with what was read, and what is alike is one `match`.
+fn read_and_list(streams: Streams, reading: Reading) -> Ending {
     // One byte more than a source may have tells an over-long input.
     let mut source = [0u8; 65537];
     let mut from = streams.from;
-    let count = match buffer::fill(&mut from, &mut source) {
-        Filled::Bytes { count } => count,
-        Filled::Failed { fault } => {
-            tell(streams.err, b"lister: cannot read standard input", fault);
-            return 2;
+    match buffer::fill(&mut from, &mut source) {
+        Ok(count) => list(streams, &source[..count], reading),
+        Err(error) => {
+            tell(streams.err, b"lister: cannot read standard input", error);
+            Ending::Failed
         }
-    };
-    list(streams, &source[..count], reading)
+    }
 }
 
 fn main(rt: HostRuntime) {
@@ -41,11 +42,11 @@ fn main(rt: HostRuntime) {
         to: rt.stdout(),
         err: rt.stderr(),
     };
-    let Chosen::OneReading { reading } = arguments::asked(&rt) else {
+    let Some(reading) = arguments::asked(&rt) else {
         arguments::say_usage(streams.err, b"lister");
-        buffer::leave(&rt, 2);
+        buffer::leave(&rt, Ending::Failed);
         return;
     };
-    let status = read_and_list(streams, reading);
-    buffer::leave(&rt, status);
+    let ending = read_and_list(streams, reading);
+    buffer::leave(&rt, ending);
 }

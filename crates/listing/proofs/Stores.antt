@@ -1,4 +1,5 @@
 -- One turn of the listing: what is left to list gives the answer, and written after what is stored it gives the store. Assumes nothing.
+use Rattle.std.specs.Prelude.{Err, Ok}
 use Prim.Native.Nat.{ℕ, suc, ◌+◌, ◌-◌, ◌≤◌, ◌<◌}
 use mathlib.Core.Path.{◌≡◌, refl, sym, ap, ◌∙◌, subst}
 use mathlib.Core.List.{List, [], ◌∷◌}
@@ -9,9 +10,7 @@ use borrow.Author.Tests.{le-ltb, lt-ltb}
 use Rattle.families.proofs.Steps.{tokens_fin, tokens_halt, tokens_more, tokens_past, tokens_room, tokens_start}
 use Rattle.families.specs.Tokens.{Tokens, fin, halt, more, tokens_at}
 use Rattle.lexer.specs.Next.{next_at}
-use Rattle.listing.specs.Listing.{list_answer, list_of, listed_words, no_room, stored_of}
-use Rattle.listing.specs.declared.Listed.{Listed}
-use Rattle.listing.specs.declared.Listed.TheVariants.{Stopped, Whole}
+use Rattle.listing.specs.Listing.{list_answer, list_of, listed_words, no_room, no_room_at, stored_of, Listed, listed_up_to}
 use Rattle.numbers.specs.Kinds.{number_of}
 use Rattle.quick.proofs.Sure.{Told, quick_told}
 use Rattle.quick.specs.Tokens.{quick_token_at}
@@ -19,10 +18,7 @@ use Rattle.quick.specs.declared.tokens.Quick.{Quick}
 use Rattle.readers.specs.Rules.{rules_of}
 use Rattle.readers.specs.declared.reading.Reading.{Reading}
 use Rattle.source_test.specs.Source.{after_test, source_test}
-use Rattle.source_test.specs.declared.Tested.{Tested}
-use Rattle.token.specs.Reads.{span_of}
-use Rattle.token.specs.declared.read.Read.{Read}
-use Rattle.token.specs.declared.read.Read.TheVariants.{Got, Refused}
+use Rattle.token.specs.Reads.{span_of, Read, Tested}
 use Rattle.token.specs.declared.read.Refusal.{Refusal}
 use Rattle.token.specs.declared.read.Token.{Token}
 
@@ -68,20 +64,20 @@ module _ (g : Reading) (s out₀ out : List ℕ) (at n count : ℕ) (h : Head g 
   )
 
   module _ (r : Read) (er : r ≡ next_at g s at) where
-    pub list_halt : (k : Refusal) → r ≡ Refused k → Done (Stopped count k)
+    pub list_halt : (k : Refusal) → r ≡ Err k → Done (listed_up_to count k)
     unfolding list_answer listed_words
-    list_halt k e = finish (halt k) (tokens_halt g s at r er k e) (Stopped count k) refl refl
+    list_halt k e = finish (halt k) (tokens_halt g s at r er k e) (listed_up_to count k) refl refl
 
-    module _ (k : Token) (e : r ≡ Got k) where
-      pub list_fin : k.span.end ≡ at → Done (Whole count)
+    module _ (k : Token) (e : r ≡ Ok k) where
+      pub list_fin : k.span.end ≡ at → Done (Ok count)
       unfolding list_answer listed_words
-      list_fin z = finish fin (tokens_fin g s at r er k e z) (Whole count) refl refl
+      list_fin z = finish fin (tokens_fin g s at r er k e z) (Ok count) refl refl
 
       module _ (z : k.span.end ≡ at → ⊥) where
-        pub list_short : length out - n < 3 → Done (Stopped count (no_room k))
+        pub list_short : length out - n < 3 → Done (listed_up_to count (no_room k))
         unfolding list_answer listed_words
         list_short l =
-            finish (more k (tokens_at (rules_of g) s k.span.end)) (tokens_more g s at r er k e z) (Stopped count (no_room k)) (rw (lt-ltb (length out - n) 3 l, list_answer)) (rw (lt-ltb (length out - n) 3 l, listed_words))
+            finish (more k (tokens_at (rules_of g) s k.span.end)) (tokens_more g s at r er k e z) (listed_up_to count (no_room k)) (rw (lt-ltb (length out - n) 3 l, list_answer)) (rw (lt-ltb (length out - n) 3 l, listed_words))
 
         turn : 3 ≤ length out - n → Head g s out₀ (set (set (set out n (number_of k.kind)) (n + 1) at) (n + 2) k.span.end) k.span.end (n + 3) (count + 1)
         unfolding list_answer listed_words
@@ -135,19 +131,19 @@ module _ (g : Reading) (s out₀ out : List ℕ) (at n count : ℕ) (h : Head g 
     moves_on : q.end ≡ at → ⊥
     moves_on e = omega (arith, quick_past)
 
-    pub quick_short : length out - n < 3 → Done (Stopped count (record { number = 3; span = span_of at q.end; reached = q.end }))
-    quick_short l = list_short (Got token) told.reads token refl moves_on l
+    pub quick_short : length out - n < 3 → Done (listed_up_to count (no_room_at (span_of at q.end)))
+    quick_short l = list_short (Ok token) told.reads token refl moves_on l
 
     pub quick_more : (next : List ℕ) → next ≡ set (set (set out n q.number) (n + 1) at) (n + 2) q.end → 3 ≤ length out - n
         → Head g s out₀ next q.end (n + 3) (count + 1)
-    quick_more next en l = list_more (Got token) told.reads token refl moves_on q.number (sym told.number) next en l
+    quick_more next en l = list_more (Ok token) told.reads token refl moves_on q.number (sym told.number) next en l
 
     pub quick_room : q.end ≤ length s
-    quick_room = list_room (Got token) told.reads token refl moves_on
+    quick_room = list_room (Ok token) told.reads token refl moves_on
 
 -- the tests before, and the whole
 pub by_test : (g : Reading) (s : List ℕ) (room : ℕ) (t : Tested) → t ≡ source_test s
-    → (list_of g s room ≡ after_test t (list_answer (tokens_at (rules_of g) s 0) room 0) (Stopped 0))
+    → (list_of g s room ≡ after_test t (list_answer (tokens_at (rules_of g) s 0) room 0) (listed_up_to 0))
     × (stored_of g s room ≡ after_test t (listed_words (tokens_at (rules_of g) s 0) room) (λ r. []))
 unfolding list_of stored_of
 by_test g s room t e = (rw (← e, list_of), rw (← e, stored_of))

@@ -5,40 +5,45 @@ ghost use Rattle.std.specs.Prelude.{◌+◌, ◌≤◌, ◌≡◌, length, set};
 ghost use Rattle.std.proofs.lemmas.List.Edits.{sets};
 ghost use Rattle.families.specs.Tokens.{tokens_at};
 ghost use Rattle.lexer.specs.Next.{next_at};
-ghost use Rattle.listing.specs.Listing.{list_answer, list_of, listed_words, stored_of};
-ghost use Rattle.listing.specs.declared.Listed.TheVariants.{Stopped};
+ghost use Rattle.listing.specs.Listing.{list_answer, list_of, listed_words, no_room_at, stopped_at, stored_of};
 ghost use Rattle.readers.specs.Rules.{rules_of};
 
 use readers::Reading;
 use rows::ROW;
-use source_test::Tested;
-use token::refusal::NO_ROOM;
-use token::{Read, Refusal, Span};
+use token::{Reason, Refusal, Span, Token};
 
-// The count of stored tokens, with the refusal that ended the listing if there was one.
-#[derive(Drop)]
-pub enum Listed {
-    Whole { count: usize },
-    Stopped { count: usize, refusal: Refusal },
+// The refusal that ended the listing, and how many tokens were stored before.
+#[derive(Clone, Copy, PartialEq, Eq)]
+pub struct Stopped {
+    pub count: usize,
+    pub refusal: Refusal,
+}
+
+// A source that may not be read stores nothing.
+impl From<Refusal> for Stopped {
+    ghost from_gives = { λ refusal stopped. stopped ≡ stopped_at 0 refusal };
+
+    fn from(refusal: Refusal) -> Stopped {
+        Stopped { count: 0, refusal }
+    }
 }
 
 // The store has no room for the token just read.
-fn no_room(count: usize, span: Span) -> Listed
-    ensures { result ≡ Stopped count (record { number = 3; span = span; reached = span.end }) }
+fn no_room(count: usize, span: Span) -> Stopped
+    ensures { result ≡ stopped_at count (no_room_at span) }
 {
-    let reached = span.end;
-    Listed::Stopped {
+    Stopped {
         count,
         refusal: Refusal {
-            number: NO_ROOM,
+            reason: Reason::NoRoom,
             span,
-            reached,
+            reached: span.end,
         },
     }
 }
 
 // A shebang stands at 0 alone: everywhere else it is not looked for.
-fn next_token(s: &[u8], reading: Reading, at: usize) -> Read
+fn next_token(s: &[u8], reading: Reading, at: usize) -> Result<Token, Refusal>
     ensures { result ≡ next_at reading s.now at }
 {
     if at == 0 {
@@ -57,7 +62,7 @@ fn put(store: &mut [u32], n: usize, number: u32, at: usize, end: usize)
     store[n + 2] = end as u32;
 }
 
-fn list_tokens(s: &[u8], reading: Reading, store: &mut [u32]) -> Listed
+fn list_tokens(s: &[u8], reading: Reading, store: &mut [u32]) -> Result<usize, Stopped>
     requires { length s.now ≤ 65536 }
     ensures { (result ≡ list_answer (tokens_at (rules_of reading) s.now 0) (length store.old) 0)
         × (store.new ≡ sets store.old 0 (listed_words (tokens_at (rules_of reading) s.now 0) (length store.old))) }
@@ -70,43 +75,39 @@ fn list_tokens(s: &[u8], reading: Reading, store: &mut [u32]) -> Listed
         if quick.number != 0 {
             let end = quick.end;
             if store.len() - n < ROW {
-                return no_room(count, Span { start: at, end });
+                return Err(no_room(count, Span { start: at, end }));
             }
             put(store, n, quick.number, at, end);
-            n = n + ROW;
-            count = count + 1;
+            n += ROW;
+            count += 1;
             at = end;
         } else {
             let answer = next_token(s, reading, at);
-            let Read::Got { token } = answer else {
-                return Listed::Stopped {
+            let Ok(token) = answer else {
+                return Err(Stopped {
                     count,
-                    refusal: token::refusal_in(answer),
-                };
+                    refusal: answer.unwrap_err(),
+                });
             };
-            let kind = token.kind;
-            let span = token.span;
-            let end = span.end;
+            let end = token.span.end;
             if end == at {
-                return Listed::Whole { count };
+                return Ok(count);
             }
             if store.len() - n < ROW {
-                return no_room(count, span);
+                return Err(no_room(count, token.span));
             }
-            put(store, n, numbers::number_of(kind), at, end);
-            n = n + ROW;
-            count = count + 1;
+            put(store, n, numbers::number_of(token.kind), at, end);
+            n += ROW;
+            count += 1;
             at = end;
         }
     }
 }
 
-pub fn list(s: &[u8], reading: Reading, store: &mut [u32]) -> Listed
+pub fn list(s: &[u8], reading: Reading, store: &mut [u32]) -> Result<usize, Stopped>
     ensures { (result ≡ list_of reading s.now (length store.old))
         × (store.new ≡ sets store.old 0 (stored_of reading s.now (length store.old))) }
 {
-    match source_test::test_source(s) {
-        Tested::Sound => list_tokens(s, reading, store),
-        Tested::Unsound { refusal } => Listed::Stopped { count: 0, refusal },
-    }
+    source_test::test_source(s)?;
+    list_tokens(s, reading, store)
 }

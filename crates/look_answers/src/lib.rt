@@ -4,25 +4,27 @@
 ghost use Rattle.std.specs.Prelude.{◌≡◌};
 ghost use Rattle.look_answers.specs.Told.{number_told, words_told};
 
-use looks::Looked;
+use looks::{Done, Stop};
 
 // Value, count, start, end, and 0 for the place reached; a refusal has no place.
-pub fn tell_looked(looked: Looked, answer: &mut [usize; 5]) -> u32
+pub fn tell_looked(looked: Result<Done, Stop>, answer: &mut [usize; 5]) -> u32
     ensures { (result ≡ number_told looked) × (answer.new ≡ words_told looked) }
 {
     match looked {
-        Looked::Done {
-            count,
-            value,
-            start,
-            end,
-        } => {
+        Ok(
+            Done {
+                count,
+                value,
+                start,
+                end,
+            },
+        ) => {
             *answer = [value as usize, count, start as usize, end as usize, 0];
             0
         }
-        Looked::Refused { number } => {
-            *answer = [0, 0, 0, 0, 0];
-            number
+        Err(stop) => {
+            *answer = [0; 5];
+            u32::from(stop)
         }
     }
 }

@@ -7,6 +7,7 @@ use native.Mathlib.Omega.{arith}
 use lib.Seq.{length-sets, sets}
 use lib.ListN.{get_or, length, length-append}
 use borrow.Author.Tests.{eq-eqb, lt-leb, ne_eqb}
+use Rattle.std.specs.Prelude.{Ok}
 use Rattle.laws.proofs.Cases.{never, split, split_eq, split_le}
 use Rattle.laws.proofs.Sets.{sets_append}
 use Rattle.looks.proofs.Answers.{refusal_none}
@@ -15,7 +16,7 @@ use Rattle.looks.specs.Buffer.{State, fits_for, ring_at}
 use Rattle.looks.specs.Calls.{advance_refusal, advance_words, advanced, array_refusal, array_words, bumped, with_nums}
 use Rattle.looks.specs.Front.{front_white, front_words, less_held, less_waiting, nth_of, nth_words, wait_words, white_of}
 use Rattle.looks.specs.Sound.{count_sum, sound_by}
-use Rattle.looks.specs.declared.state.Nums.{Nums}
+use Rattle.ahead.specs.declared.Nums.{Nums}
 
 pub sum_mod : (ring : List ℕ) (n at : ℕ) → count_sum ring n (at % 8) ≡ count_sum ring n at
 unfolding count_sum
@@ -32,22 +33,22 @@ sum_mono ring (suc n) zero at h = absurd (omega arith)
 sum_mono ring (suc n) (suc k) at h = let e = sum_mono ring n k (at + 1) (omega arith) in omega arith
 
 module _ (t : ℕ) (l : List ℕ) (n : ℕ) (st : State) where
-  pub advance_none : advance_refusal t l n st ≡ 0 → (sound_by t l st ≡ true) × (n ≤ st.nums.held_len)
+  pub advance_none : advance_refusal t l n st ≡ Ok tt → (sound_by t l st ≡ true) × (n ≤ st.nums.held_len)
   unfolding advance_refusal
   advance_none e =
       split (sound_by t l st)
       (λ s. split_le n st.nums.held_len
       (λ h. (s, h))
-      (λ h. never (let w : ◌≡◌ {A = ℕ} 32 0 = rw (s, lt-leb n st.nums.held_len h) at e in omega arith)))
-      (λ s. never (let w : ◌≡◌ {A = ℕ} 34 0 = rw s at e in omega arith))
+      (λ h. let w = rw (s, lt-leb n st.nums.held_len h) at e in never (cc)))
+      (λ s. let w = rw s at e in never (cc))
 
-  pub array_none : array_refusal t l n st ≡ 0 → (sound_by t l st ≡ true) × (n ≤ 8) × (fits_for l (n - st.nums.held_len) st.nums ≡ true)
+  pub array_none : array_refusal t l n st ≡ Ok tt → (sound_by t l st ≡ true) × (n ≤ 8) × (fits_for l (n - st.nums.held_len) st.nums ≡ true)
   unfolding array_refusal fits_for
   array_none e =
       split_eq n 0
       (λ z. split (sound_by t l st)
       (λ s. let k : n - st.nums.held_len ≡ 0 = omega arith in (s, omega arith, ap (λ (i : ℕ). fits_for l i st.nums) k))
-      (λ s. never (let w : ◌≡◌ {A = ℕ} 34 0 = rw (eq-eqb n 0 z, s) at e in omega arith)))
+      (λ s. let w = rw (eq-eqb n 0 z, s) at e in never (cc)))
       (λ z. let r = refusal_none t l (n - 1) st (rw (ne_eqb n 0 z) at e) in
       let k : n - st.nums.held_len ≡ n - 1 + 1 - st.nums.held_len = omega arith in
       (r.0, omega (arith, r.1), ap (λ (i : ℕ). fits_for l i st.nums) k ∙ r.2))
@@ -71,10 +72,6 @@ pub record Advancing (l : List ℕ) (n : ℕ) (st : State) (out₀ out : List �
   pub room : at + count_sum st.counts left m.held_at * 3 + left * 3 ≤ length out
 
 module _ (l : List ℕ) (n : ℕ) (st : State) (out₀ : List ℕ) where
-  pub advancing_first : n ≤ st.nums.held_len → count_sum st.counts n st.nums.held_at ≤ st.nums.wait_len
-      → count_sum st.counts n st.nums.held_at * 3 + n * 3 ≤ length out₀ → Advancing l n st out₀ out₀ st.nums 0 n
-  advancing_first h s r = record { state = refl; stores = refl; same = refl; held = h; sum = s; room = omega arith }
-
   module _ (out : List ℕ) (m : Nums) (at left : ℕ) (a : Advancing l n st out₀ out m at left) where
     pub advancing_end : left ≤ 0 → (with_nums m st ≡ advanced n st) × (out ≡ sets out₀ 0 (advance_words l n st))
     unfolding advanced advance_words
@@ -109,7 +106,7 @@ module _ (l : List ℕ) (n : ℕ) (st : State) (out₀ : List ℕ) where
         white_front = ew ∙ sym (rw (ne_eqb m.held_len 0 held_some))
 
         pub advancing_more : (ws out₁ : List ℕ) (m₁ : Nums) → ws ≡ nth_of l 0 (with_nums m st) → m₁ ≡ less_held (less_waiting white m)
-            → out₁ ≡ sets out at (wait_words white l st.waiting m.wait_at ++ ws) → Advancing l n st out₀ out₁ m₁ (at + white * 3 + 3) (left - 1)
+            → out₁ ≡ sets out at (wait_words white l st.waiting m.wait_at ++ ws) → Advancing l n st out₀ out₁ m₁ (at + (white * 3 + 3)) (left - 1)
         unfolding advanced advance_words
         advancing_more ws out₁ m₁ es em eo =
             let f = with_nums m st in
@@ -132,8 +129,8 @@ module _ (l : List ℕ) (n : ℕ) (st : State) (out₀ : List ℕ) where
             record {
               state = ap (advanced (left - 1)) next ∙ sym (ap (λ (k : ℕ). advanced k f) left_one) ∙ a.state;
               stores =
-                  ap₂ (λ (x : List ℕ) (g : State). sets x (at + white * 3 + 3) (advance_words l (left - 1) g)) stored next
-                  ∙ sets_append out (front_words l f) (advance_words l (left - 1) (bumped f)) at (at + white * 3 + 3) (omega arith)
+                  ap₂ (λ (x : List ℕ) (g : State). sets x (at + (white * 3 + 3)) (advance_words l (left - 1) g)) stored next
+                  ∙ sets_append out (front_words l f) (advance_words l (left - 1) (bumped f)) at (at + (white * 3 + 3)) (omega arith)
                   ∙ sym (ap (λ (k : ℕ). sets out at (advance_words l k f)) left_one) ∙ a.stores;
               same = size ∙ a.same;
               held = omega (arith, few, facts.0);
@@ -156,11 +153,6 @@ array_length l (suc n) i m held =
     omega arith
 
 module _ (l : List ℕ) (n : ℕ) (m : Nums) (held out₀ : List ℕ) where
-  pub filing_first : Filing l n m held out₀ out₀ 0
-  filing_first =
-      let e : n - 0 ≡ n = omega arith in
-      record { same = refl; stores = ap (λ (k : ℕ). sets out₀ 0 (array_words l k 0 m held)) e }
-
   module _ (out : List ℕ) (i : ℕ) (a : Filing l n m held out₀ out i) where
     pub filing_end : n ≤ i → out ≡ sets out₀ 0 (array_words l n 0 m held)
     unfolding array_words

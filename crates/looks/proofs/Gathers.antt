@@ -12,7 +12,7 @@ use Rattle.looks.proofs.Numbers.{count_bound, dark_bound}
 use Rattle.looks.proofs.Six.{six_last, six_more}
 use Rattle.looks.specs.Buffer.{Gatherable, Roomy, State, fits_for, gather, gather_at, gather_nums, gather_to, gathers, keeps, nums_of, queued, state_of, white_to}
 use Rattle.looks.specs.Numbered.{dark, token_count}
-use Rattle.looks.specs.declared.state.Nums.{Nums}
+use Rattle.ahead.specs.declared.Nums.{Nums}
 
 module _ (p count : ℕ) (m : Nums) where
   pub gather_more : p < count → (w : ℕ) → w ≡ white_to p m → record { next = p + 1; held_at = m.held_at; held_len = m.held_len + 1; wait_at = m.wait_at; wait_len = m.wait_len + w; keep = m.keep } ≡ gather_to p count m
@@ -49,13 +49,6 @@ queued_more ring at i count j h =
     let g : i + j + 1 ≡ i + (j + 1) = omega arith in
     rw e (ap₂ (queued (count - (j + 1)) (set ring ((at + j) % 256) (i + j))) f g)
 
-pub queued_first : (ring : List ℕ) (at i count : ℕ) → queued (count - 0) ring (at + 0) (i + 0) ≡ queued count ring at i
-queued_first ring at i count =
-    let e : count - 0 ≡ count = omega arith in
-    let f : at + 0 ≡ at = omega arith in
-    let g : i + 0 ≡ i = omega arith in
-    rw (e, f, g)
-
 pub queued_none : (ring : List ℕ) (at i count j : ℕ) → count ≤ j → queued (count - j) ring (at + j) (i + j) ≡ ring
 unfolding queued
 queued_none ring at i count j h = let e : count - j ≡ 0 = omega arith in rw e
@@ -66,9 +59,6 @@ pub record Filling (l : List ℕ) (left : ℕ) (m : Nums) : Type 0 where
   pub roomy : Roomy m
   pub held : m.held_len + left ≤ 8
   pub wait : m.wait_len + left * 4294967296 ≤ 34359738624
-
-pub filling_first : (l : List ℕ) (left : ℕ) (m : Nums) → m.next ≤ token_count l → Roomy m → m.held_len + left ≤ 8 → m.wait_len ≤ 256 → Filling l left m
-filling_first l left m n r h w = record { reach = n; roomy = r; held = h; wait = omega arith }
 
 module _ (l : List ℕ) (left : ℕ) (m : Nums) (f : Filling l left m) where
   pub filling_to : (m.next ≤ dark l m.next) × (dark l m.next ≤ token_count l)

@@ -5,7 +5,8 @@ use mathlib.Core.List.{List}
 use mathlib.Core.Bool.{Bool, true, false}
 use native.Mathlib.Omega.{arith}
 use lib.ListN.{get_or, length}
-use borrow.Author.Tests.{eq-eqb, le-leb, lt-leb, ne_eqb}
+use borrow.Author.Tests.{le-leb, lt-leb, ne_eqb}
+use Rattle.std.specs.Prelude.{Result, Ok, Err}
 use Rattle.laws.proofs.Cases.{never, split_eq, split_le}
 use Rattle.laws.specs.Bools.{pick}
 use Rattle.looks.proofs.Fronts.{fill_held, fill_none}
@@ -14,58 +15,68 @@ use Rattle.looks.specs.Buffer.{State, fill, gather_at, gather_to, ring_at}
 use Rattle.looks.specs.Calls.{Emittable, Turn, fill_refusal, need_of, refuses, room_refusal, room_to, stored_by, unless}
 use Rattle.looks.specs.Front.{front_white, nth_of, white_of}
 use Rattle.looks.specs.Sound.{count_sum}
-use Rattle.looks.specs.declared.look.Looked.{Looked}
+use Rattle.looks.specs.declared.look.Done.{Done}
+use Rattle.looks.specs.declared.look.Stop.{Stop}
+use Rattle.looks.specs.declared.look.Stop.TheVariants.{StoreShort}
+use Rattle.looks.specs.declared.rooms.Want.{Want}
 
-module _ (t : ℕ) (l : List ℕ) (how kind room : ℕ) (st : State) where
-  abbrev no : ℕ
+module _ (t : ℕ) (l : List ℕ) (want : Want) (room : ℕ) (st : State) where
+  abbrev no : Result Unit Stop
   no = fill_refusal t l 0 st
 
   abbrev need : ℕ
-  need = need_of l how kind (fill l 0 st)
+  need = need_of l want (fill l 0 st)
 
-  pub room_refused : (number : ℕ) → number ≡ no → (number ≡ 0 → ⊥) → number ≡ room_refusal t l how kind room st
+  pub room_refused : (stop : Stop) → no ≡ Err stop → room_refusal t l want room st ≡ Err stop
   unfolding room_refusal
-  room_refused number is h = is ∙ sym (rw (ne_eqb no 0 (λ z. h (is ∙ z))))
+  room_refused stop e = rw e
 
-  module _ (e : no ≡ 0) where
-    pub room_short : room < need → 33 ≡ room_refusal t l how kind room st
+  module _ (e : no ≡ Ok tt) where
+    pub room_short : room < need → room_refusal t l want room st ≡ Err StoreShort
     unfolding room_refusal
-    room_short h = rw (eq-eqb no 0 e, lt-leb need room h)
+    room_short h = rw (e, lt-leb need room h)
 
-    pub room_done : need ≤ room → 0 ≡ room_refusal t l how kind room st
+    pub room_done : need ≤ room → room_refusal t l want room st ≡ Ok tt
     unfolding room_refusal
-    room_done h = rw (eq-eqb no 0 e, le-leb need room h)
+    room_done h = rw (e, le-leb need room h)
 
-  pub room_none : room_refusal t l how kind room st ≡ 0 → (no ≡ 0) × (need ≤ room)
-  room_none e =
-      split_eq no 0
-      (λ z. split_le need room
+  none_by_cases : (r : Result Unit Stop) → no ≡ r → room_refusal t l want room st ≡ Ok tt → (no ≡ Ok tt) × (need ≤ room)
+  none_by_cases (Ok u) z e =
+      split_le need room
       (λ h. (z, h))
-      (λ h. never (let w : ◌≡◌ {A = ℕ} 33 0 = room_short z h ∙ e in omega arith)))
-      (λ n. absurd (n (room_refused no refl n ∙ e)))
+      (λ h. let w = sym (room_short z h) ∙ e in never (cc))
+  none_by_cases (Err stop) z e = let w = sym (room_refused stop z) ∙ e in never (cc)
 
-  module _ (number : ℕ) (is : number ≡ room_refusal t l how kind room st) where
-    pub room_kept : (number ≡ 0 → ⊥) → st ≡ room_to t l how kind room st
-    room_kept h = rw (ne_eqb (room_refusal t l how kind room st) 0 (λ e. h (is ∙ e)))
+  pub room_none : room_refusal t l want room st ≡ Ok tt → (no ≡ Ok tt) × (need ≤ room)
+  room_none e = none_by_cases no refl e
 
-    pub room_filled : number ≡ 0 → fill l 0 st ≡ room_to t l how kind room st
-    room_filled h = rw (eq-eqb (room_refusal t l how kind room st) 0 (sym is ∙ h))
+  pub room_kept : (stop : Stop) → room_refusal t l want room st ≡ Err stop → st ≡ room_to t l want room st
+  room_kept stop h = rw h
 
-    module _ (turn : Turn) (long : length turn.written ≡ need) where
-      pub room_no : (number ≡ 0 → ⊥) → refuses number st ≡ unless no st (stored_by room st turn)
-      room_no h =
-          split_eq no 0
-          (λ z. split_le need room
-          (λ a. absurd (h (is ∙ sym (room_done z a))))
-          (λ a.
-          ap (λ (k : ℕ). refuses k st) (is ∙ sym (room_short z a)) ∙ stored_short room st turn (omega arith)
-          ∙ unless_yes no st no refl (stored_by room st turn) z))
-          (λ n. ap (λ (k : ℕ). refuses k st) (is ∙ sym (room_refused no refl n)) ∙ unless_no no st no refl (stored_by room st turn) n)
+  pub room_filled : room_refusal t l want room st ≡ Ok tt → fill l 0 st ≡ room_to t l want room st
+  room_filled h = rw h
 
-      pub room_yes : number ≡ 0 → turn ≡ unless no st (stored_by room st turn)
-      room_yes h =
-          let r = room_none (sym is ∙ h) in
-          stored_done room st turn (omega (arith, r.1)) ∙ unless_yes no st no refl (stored_by room st turn) r.0
+  module _ (turn : Turn) (long : length turn.written ≡ need) where
+    no_by_cases : (r : Result Unit Stop) → no ≡ r → (stop : Stop) → room_refusal t l want room st ≡ Err stop → refuses stop st ≡ unless no st (stored_by room st turn)
+    no_by_cases (Ok u) z stop h =
+        split_le need room
+        (λ a. let w = sym (room_done z a) ∙ h in never (cc))
+        (λ a.
+        let w = sym h ∙ room_short z a in
+        let e : stop ≡ StoreShort = cc in
+        ap (λ (k : Stop). refuses k st) e ∙ stored_short room st turn (omega arith) ∙ unless_yes Unit no st (stored_by room st turn) u z)
+    no_by_cases (Err s) z stop h =
+        let w = sym h ∙ room_refused s z in
+        let e : stop ≡ s = cc in
+        ap (λ (k : Stop). refuses k st) e ∙ unless_no Unit no st (stored_by room st turn) s z
+
+    pub room_no : (stop : Stop) → room_refusal t l want room st ≡ Err stop → refuses stop st ≡ unless no st (stored_by room st turn)
+    room_no stop h = no_by_cases no refl stop h
+
+    pub room_yes : room_refusal t l want room st ≡ Ok tt → turn ≡ unless no st (stored_by room st turn)
+    room_yes h =
+        let r = room_none h in
+        stored_done room st turn (omega (arith, r.1)) ∙ unless_yes Unit no st (stored_by room st turn) tt r.0
 
 -- with one held or more the front stands there already
 module _ (l : List ℕ) (st : State) (some : st.nums.held_len ≡ 0 → ⊥) where
@@ -99,6 +110,6 @@ fill_emits l st sum lh lc in₁ =
     (λ some. held_emits l st some sum in₁)
 
 -- a front that is emitted only where it is wanted
-pub perhaps_need : (l : List ℕ) (a : Looked) (f : State) (b : Bool) → length (perhaps l a f b).written ≡ pick b (white_of f * 3 + 3) 0
+pub perhaps_need : (l : List ℕ) (a : Result Done Stop) (f : State) (b : Bool) → length (perhaps l a f b).written ≡ pick b (white_of f * 3 + 3) 0
 perhaps_need l a f true = front_length l f
 perhaps_need l a f false = refl

@@ -5,6 +5,8 @@ use mathlib.Core.List.{List}
 use mathlib.Core.Bool.{true, false}
 use native.Mathlib.Omega.{arith}
 use lib.ListN.{length}
+use Rattle.std.specs.Prelude.{OkIff, Result, Ok, Err}
+use Rattle.std.specs.Result.{result_unwrap_or}
 use borrow.Author.Tests.{eq-eqb, le-leb, lt-leb, ne_eqb}
 use Rattle.laws.proofs.Cases.{split, split_le}
 use Rattle.looks.specs.Numbered.{dark, dark_from, end_at, is_white, kind_at, list_end, token_count}
@@ -17,6 +19,10 @@ module _ (l : List ℕ) where
   pub count_cut : 4294967295 < length l / 3 → 4294967295 ≡ token_count l
   unfolding token_count
   count_cut h = rw (lt-leb _ _ h)
+
+  pub count_tried : {E : Type 0} (r : Result ℕ E) → OkIff r (length l / 3 < 4294967296) (length l / 3) → result_unwrap_or r 4294967295 ≡ token_count l
+  count_tried (Ok x) h = let few = h.0 in h.1 ∙ count_whole (omega arith)
+  count_tried (Err e) h = split_le (length l / 3) 4294967295 (λ s. absurd (h (omega arith))) (λ s. count_cut s)
 
   pub count_bound : (token_count l ≤ 4294967295) × (token_count l * 3 ≤ length l)
   unfolding token_count

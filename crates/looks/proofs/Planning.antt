@@ -8,6 +8,7 @@ use native.Mathlib.Omega.{arith}
 use lib.Dec.{leb, ltb, eqb}
 use lib.ListN.{get_or, length}
 use borrow.Author.Tests.{eq-eqb, le-leb, le-ltb, lt-leb, lt-ltb, ne_eqb}
+use Rattle.std.specs.Prelude.{Result, Ok, Err}
 use Rattle.laws.proofs.Cases.{both_false, both_true, split_eq, split_le}
 use Rattle.laws.specs.Bools.{both, pick}
 use Rattle.looks.proofs.Advances.{less_facts, sum_mod}
@@ -15,13 +16,15 @@ use Rattle.looks.proofs.Fronts.{fill_held, front_held}
 use Rattle.looks.proofs.Numbers.{count_bound, dark_bound}
 use Rattle.looks.proofs.Plans.{fill_nums_law, fill_sizes, fits_front, front_same, plan_full, plan_go, plan_stop}
 use Rattle.looks.proofs.Turns.{white_few}
-use Rattle.looks.specs.Buffer.{Roomy, State, fill, fits, gather_nums, gather_to, ring_at, state_of, white_to}
+use Rattle.looks.specs.Buffer.{State, fill, fits, gather_nums, gather_to, ring_at, state_of, white_to}
 use Rattle.looks.specs.Calls.{bumped}
 use Rattle.looks.specs.Front.{Fronted, less_held, less_waiting, nth_of, white_of}
 use Rattle.looks.specs.Numbered.{dark, end_at, kind_at, start_at, token_count}
 use Rattle.looks.specs.Sound.{count_sum}
 use Rattle.looks.specs.While.{Plannable, fill_nums, goes_on, plan_of, tokens_left, while_plan}
-use Rattle.looks.specs.declared.state.Nums.{Nums}
+use Rattle.looks.specs.declared.look.Stop.{Stop}
+use Rattle.looks.specs.declared.look.Stop.TheVariants.{StoreShort, WaitingFull}
+use Rattle.ahead.specs.declared.Nums.{Nums}
 
 -- the state that a turn stands for: while some are held its arrays are the ones lent, and from then on they do not matter
 pub record Turning (l : List ℕ) (kind : ℕ) (held counts : List ℕ) (st₀ : State) (m : Nums) (count : ℕ) : Type 0 where
@@ -54,9 +57,6 @@ turning_first l kind held counts m b w =
       small = omega arith;
       same = refl;
     }
-
-pub plannable_roomy : (l : List ℕ) (m : Nums) (held counts : List ℕ) → Plannable l m held counts → Roomy m
-plannable_roomy l m held counts b = record { held_in = b.held_in; wait_in = b.wait_in; held_few = b.held_few; wait_few = let w = b.wait_few in omega arith }
 
 module _ (l : List ℕ) (kind : ℕ) (held counts : List ℕ) (m : Nums) (b : Plannable l m held counts)
     (white : ℕ) (words : List ℕ) (fr : Fronted l m held counts white words) (f : Nums) (fn : f ≡ fill_nums l m) where
@@ -191,33 +191,34 @@ module _ (l : List ℕ) (kind : ℕ) (held counts : List ℕ) (m : Nums) (b : Pl
     goes_real : goes_on l kind filled.nums filled.held ≡ both (ltb 0 f.held_len) (eqb (get_or words 0 0) kind)
     goes_real = ap₂ (λ (n : Nums) (ws : List ℕ). both (ltb 0 n.held_len) (eqb (get_or ws 0 0) kind)) nums_real (sym front_real.1)
 
-    pub turn_full : 256 < f.wait_len → record { refusal = 31; count = 0 } ≡ while_plan l kind st₀
-    turn_full h = plan_full l kind count t.left t.real (fits_real ∙ lt-leb f.wait_len 256 h) ∙ t.same
+    pub turn_full : 256 < f.wait_len → Err WaitingFull ≡ while_plan l kind st₀
+    turn_full h = sym (plan_full l kind count t.left t.real (fits_real ∙ lt-leb f.wait_len 256 h)) ∙ t.same
 
     module _ (fit : f.wait_len ≤ 256) where
       fits_yes : fits l 0 t.real.nums ≡ true
       fits_yes = fits_real ∙ le-leb f.wait_len 256 fit
 
-      stopped : both (ltb 0 f.held_len) (eqb (get_or words 0 0) kind) ≡ false
-          → record { refusal = pick (both (eqb kind 67) (eqb f.held_len 0)) 33 0; count = count } ≡ while_plan l kind st₀
+      abbrev stop_at : Bool → Result ℕ Stop
+      stop_at b = pick b (Err StoreShort) (Ok count)
+
+      stopped : both (ltb 0 f.held_len) (eqb (get_or words 0 0) kind) ≡ false → stop_at (both (eqb kind 67) (eqb f.held_len 0)) ≡ while_plan l kind st₀
       stopped e =
           let z : count + 0 ≡ count = omega arith in
-          sym (plan_stop l kind count t.left t.real fits_yes (goes_real ∙ e) ∙ ap₂ (λ (n : Nums) (k : ℕ). record { refusal = pick (both (eqb kind 67) (eqb n.held_len 0)) 33 0; count = k }) nums_real z)
+          sym (plan_stop l kind count t.left t.real fits_yes (goes_real ∙ e) ∙ ap₂ (λ (n : Nums) (k : ℕ). pick (both (eqb kind 67) (eqb n.held_len 0)) (Err StoreShort) (Ok k)) nums_real z)
           ∙ t.same
 
-      pub turn_none : f.held_len ≡ 0 → (r : ℕ) → r ≡ pick (eqb kind 67) 33 0 → record { refusal = r; count = count } ≡ while_plan l kind st₀
+      pub turn_none : f.held_len ≡ 0 → (r : Result ℕ Stop) → r ≡ stop_at (eqb kind 67) → r ≡ while_plan l kind st₀
       turn_none none r e =
           let z : ltb 0 f.held_len ≡ false = le-ltb 0 f.held_len (omega arith) in
-          ap (λ (k : ℕ). record { refusal = k; count = count }) (e ∙ sym (ap (λ (x : Bool). pick x 33 0) (ap (both (eqb kind 67)) (eq-eqb f.held_len 0 none) ∙ both_true (eqb kind 67))))
-          ∙ stopped (rw z)
+          e ∙ sym (ap stop_at (ap (both (eqb kind 67)) (eq-eqb f.held_len 0 none) ∙ both_true (eqb kind 67))) ∙ stopped (rw z)
 
       module _ (some : f.held_len ≡ 0 → ⊥) where
-        pub turn_other : (get_or words 0 0 ≡ kind → ⊥) → record { refusal = 0; count = count } ≡ while_plan l kind st₀
+        pub turn_other : (get_or words 0 0 ≡ kind → ⊥) → Ok count ≡ while_plan l kind st₀
         turn_other h =
-            ap (λ (k : ℕ). record { refusal = k; count = count }) (sym (ap (λ (x : Bool). pick x 33 0) (ap (both (eqb kind 67)) (ne_eqb f.held_len 0 some) ∙ both_false (eqb kind 67))))
+            sym (ap stop_at (ap (both (eqb kind 67)) (ne_eqb f.held_len 0 some) ∙ both_false (eqb kind 67)))
             ∙ stopped (ap (both (ltb 0 f.held_len)) (ne_eqb (get_or words 0 0) kind h) ∙ both_false (ltb 0 f.held_len))
 
-        pub turn_more : get_or words 0 0 ≡ kind → Turning l kind held counts st₀ (after fit some) (count + white + 1)
+        pub turn_more : get_or words 0 0 ≡ kind → Turning l kind held counts st₀ (after fit some) (count + (white + 1))
         turn_more h =
             let sizes = fill_sizes l t.real t.held_size t.counts_size in
             let less = (fewer fit some).0 in
@@ -226,7 +227,7 @@ module _ (l : List ℕ) (kind : ℕ) (held counts : List ℕ) (m : Nums) (b : Pl
             let few = turn_few in
             let w = front_real.0 in
             let goes : goes_on l kind filled.nums filled.held ≡ true = goes_real ∙ rw (lt-ltb 0 f.held_len (omega arith), eq-eqb (get_or words 0 0) kind h) in
-            let sum : count + white + 1 ≡ count + (white_of filled + 1) = omega arith in
+            let sum : count + (white + 1) ≡ count + (white_of filled + 1) = omega arith in
             record {
               real = bumped filled;
               is = ap₂ (λ (k : ℕ) (n : Nums). less_held (less_waiting k n)) (sym front_real.0) nums_real;

@@ -7,6 +7,7 @@ use native.Mathlib.Omega.{arith}
 use lib.Dec.{leb, ltb, eqb}
 use lib.ListN.{length, length-set}
 use borrow.Author.Tests.{eq-eqb, le-leb, ne_eqb}
+use Rattle.std.specs.Prelude.{Ok, Err}
 use Rattle.laws.proofs.Cases.{both_true, split, split_eq, split_le}
 use Rattle.laws.specs.Bools.{both, pick}
 use Rattle.looks.proofs.Fronts.{fill_held, fill_none, front_last, front_more}
@@ -16,7 +17,8 @@ use Rattle.looks.specs.Front.{nth_of, white_of}
 use Rattle.looks.specs.Numbered.{dark, end_at, kind_at, list_end, start_at, token_count}
 use Rattle.looks.specs.While.{fill_nums, goes_on, plan_of, run_of, stops}
 use Rattle.looks.specs.declared.emit.Words.{Words}
-use Rattle.looks.specs.declared.state.Nums.{Nums}
+use Rattle.looks.specs.declared.look.Stop.TheVariants.{StoreShort, WaitingFull}
+use Rattle.ahead.specs.declared.Nums.{Nums}
 
 -- two states with the same numbers and none held have the same front once filled
 pub front_same : (l : List ℕ) (st st' : State) → st.nums ≡ st'.nums → st.nums.held_len ≡ 0
@@ -74,7 +76,7 @@ module _ (l : List ℕ) (kind before n : ℕ) (st : State) where
   abbrev f₀ : State
   f₀ = fill l 0 st
 
-  pub plan_full : fits l 0 st.nums ≡ false → record { refusal = 31; count = 0 } ≡ plan_of l kind before n st
+  pub plan_full : fits l 0 st.nums ≡ false → plan_of l kind before n st ≡ Err WaitingFull
   unfolding plan_of
   plan_full e = rw e
 
@@ -85,7 +87,7 @@ module _ (l : List ℕ) (kind before n : ℕ) (st : State) where
 
   module _ (fit : fits l 0 st.nums ≡ true) where
     pub plan_stop : goes_on l kind f₀.nums f₀.held ≡ false
-        → plan_of l kind before n st ≡ record { refusal = pick (both (eqb kind 67) (eqb f₀.nums.held_len 0)) 33 0; count = before + 0 }
+        → plan_of l kind before n st ≡ pick (both (eqb kind 67) (eqb f₀.nums.held_len 0)) (Err StoreShort) (Ok (before + 0))
     unfolding plan_of
     plan_stop e = rw (fit, run_stop e n)
 

@@ -8,6 +8,7 @@ use lib.Dec.{ltb, eqb}
 use lib.Seq.{get_or-set_same, length-sets, sets}
 use lib.ListN.{get_or, length, length-append}
 use borrow.Author.Tests.{eq-eqb, le-ltb, leb-true, lt-ltb, ltb-true, ne_eqb}
+use Rattle.std.specs.Prelude.{Ok, Err}
 use Rattle.laws.proofs.Cases.{both_false, both_inv, never, split, split_eq, split_le}
 use Rattle.laws.proofs.Sets.{sets_append}
 use Rattle.laws.specs.Bools.{both, pick}
@@ -25,8 +26,8 @@ use Rattle.looks.specs.Front.{Fronted, front_white, front_words, nth_of, wait_wo
 use Rattle.looks.specs.Numbered.{dark, token_count}
 use Rattle.looks.specs.Sound.{count_sum, sound_by}
 use Rattle.looks.specs.While.{Plannable, Run, bump_while_by, emits_then, fill_nums, goes_on, plan_of, run_of, stops, tokens_left, while_plan, while_refusal, while_run, while_turn}
-use Rattle.looks.specs.declared.state.Nums.{Nums}
-use Rattle.looks.specs.declared.whiles.Plan.{Plan}
+use Rattle.looks.specs.declared.look.Stop.TheVariants.{Faulty, StoreShort}
+use Rattle.ahead.specs.declared.Nums.{Nums}
 
 abbrev pub Steady : List ℕ → State → Type 0
 Steady l st = Plannable l st.nums st.held st.counts
@@ -222,7 +223,7 @@ module _ (l : List ℕ) (kind : ℕ) (run : Run) (out₀ out : List ℕ) (f : St
       omega arith
 
   pub running_more : (white : ℕ) (ws out₁ : List ℕ) (f₁ : State) → white ≡ white_of f → ws ≡ nth_of l 0 f → f₁ ≡ fill l 0 (bumped f)
-      → out₁ ≡ sets out at (wait_words white l f.waiting f.nums.wait_at ++ ws) → Running l kind run out₀ out₁ f₁ (at + white * 3 + 3)
+      → out₁ ≡ sets out at (wait_words white l f.waiting f.nums.wait_at ++ ws) → Running l kind run out₀ out₁ f₁ (at + (white * 3 + 3))
   running_more white ws out₁ f₁ ew es ef eo =
       let fit = both_inv (fits l 0 (bumped f).nums) then.fitting (sym (ap (λ (x : Run). x.fitting) run_one) ∙ r.fitting) in
       let stored : out₁ ≡ sets out at (front_words l f) = eo ∙ ap (sets out at) (front_words_law l f f refl white ew ws es) in
@@ -232,7 +233,7 @@ module _ (l : List ℕ) (kind : ℕ) (run : Run) (out₀ out : List ℕ) (f : St
       let size = ap length stored ∙ length-sets out at (front_words l f) in
       let less = running_less in
       let enough = r.enough in
-      subst (λ (s : State). Running l kind run out₀ out₁ s (at + white * 3 + 3)) (sym ef)
+      subst (λ (s : State). Running l kind run out₀ out₁ s (at + (white * 3 + 3))) (sym ef)
       (record {
         left = r.left - 1;
         enough = omega arith;
@@ -240,21 +241,23 @@ module _ (l : List ℕ) (kind : ℕ) (run : Run) (out₀ out : List ℕ) (f : St
         fitting = fit.1;
         state = sym (ap (λ (x : Run). x.state) run_one) ∙ r.state;
         stores =
-            ap (λ (o : List ℕ). sets o (at + white * 3 + 3) then.written) stored
-            ∙ sets_append out (front_words l f) then.written at (at + white * 3 + 3) (omega arith)
+            ap (λ (o : List ℕ). sets o (at + (white * 3 + 3)) then.written) stored
+            ∙ sets_append out (front_words l f) then.written at (at + (white * 3 + 3)) (omega arith)
             ∙ sym (ap (λ (x : Run). sets out at x.written) run_one) ∙ r.stores;
         same = size ∙ r.same;
         room = omega arith;
       })
 
 -- a plan that refuses nothing says that the run fits, and counts it
-pub plan_inv : (l : List ℕ) (kind before n : ℕ) (st : State) → (plan_of l kind before n st).refusal ≡ 0
-    → (fits l 0 st.nums ≡ true) × ((run_of l kind n (fill l 0 st)).fitting ≡ true) × ((plan_of l kind before n st).count ≡ before + (run_of l kind n (fill l 0 st)).count)
+pub plan_inv : (l : List ℕ) (kind before n : ℕ) (st : State) (count : ℕ) → plan_of l kind before n st ≡ Ok count
+    → (fits l 0 st.nums ≡ true) × ((run_of l kind n (fill l 0 st)).fitting ≡ true) × (count ≡ before + (run_of l kind n (fill l 0 st)).count)
 unfolding plan_of
-plan_inv l kind before n st e =
+plan_inv l kind before n st count e =
     split (both (fits l 0 st.nums) (run_of l kind n (fill l 0 st)).fitting)
-    (λ t. let p = both_inv (fits l 0 st.nums) (run_of l kind n (fill l 0 st)).fitting t in (p.0, p.1, rw t))
-    (λ t. never (let w : ◌≡◌ {A = ℕ} 31 0 = rw t at e in omega arith))
+    (λ t. split (both (eqb kind 67) (eqb (run_of l kind n (fill l 0 st)).state.nums.held_len 0))
+    (λ s. let w = rw (t, s) at e in never (cc))
+    (λ s. let w = rw (t, s) at e in let p = both_inv (fits l 0 st.nums) (run_of l kind n (fill l 0 st)).fitting t in (p.0, p.1, cc)))
+    (λ t. let w = rw t at e in never (cc))
 
 -- a filled state from which a run of at most n tokens fits, and has its room
 pub record Runnable (l : List ℕ) (kind n : ℕ) (f : State) (room : ℕ) : Type 0 where
@@ -263,36 +266,27 @@ pub record Runnable (l : List ℕ) (kind n : ℕ) (f : State) (room : ℕ) : Typ
   pub fitting : (run_of l kind n f).fitting ≡ true
   pub fits_in : (run_of l kind n f).count * 3 ≤ room
 
-pub runnable_first : (l : List ℕ) (kind : ℕ) (st : State) (room : ℕ) → Steady l st → (while_plan l kind st).refusal ≡ 0 → (while_plan l kind st).count * 3 ≤ room
-    → (f : State) → f ≡ fill l 0 st → Runnable l kind (tokens_left l st.nums) f room
-runnable_first l kind st room b e h f ef =
-    let p = plan_inv l kind 0 (tokens_left l st.nums) st e in
+pub runnable_first : (l : List ℕ) (kind : ℕ) (st : State) (room : ℕ) → Steady l st → fits l 0 st.nums ≡ true → (while_run l kind st).fitting ≡ true
+    → (while_run l kind st).count * 3 ≤ room → (f : State) → f ≡ fill l 0 st → Runnable l kind (tokens_left l st.nums) f room
+runnable_first l kind st room b now fit h f ef =
     subst (λ (s : State). Runnable l kind (tokens_left l st.nums) s room) (sym ef)
-    (record { enough = left_fill l st b; good = good_fill l st b p.0; fitting = p.1; fits_in = omega (arith, p.2) })
+    (record { enough = left_fill l st b; good = good_fill l st b now; fitting = fit; fits_in = h })
 
 -- so far, for every run that may have been begun
 abbrev pub Runs : List ℕ → ℕ → State → List ℕ → List ℕ → State → ℕ → Type 0
 Runs l kind f₀ out₀ out f at = (n : ℕ) → Runnable l kind n f₀ (length out₀) → Running l kind (run_of l kind n f₀) out₀ out f at
 
-pub runs_first : (l : List ℕ) (kind : ℕ) (f : State) (out₀ : List ℕ) → Runs l kind f out₀ out₀ f 0
-runs_first l kind f out₀ n r =
-    record { left = n; enough = r.enough; good = r.good; fitting = r.fitting; state = refl; stores = refl; same = refl; room = let h = r.fits_in in omega arith }
-
 module _ (t : ℕ) (l : List ℕ) (kind : ℕ) (st : State) where
-  pub while_unsound : sound_by t l st ≡ false → 34 ≡ while_refusal t l kind st
+  pub while_unsound : sound_by t l st ≡ false → while_refusal t l kind st ≡ Err Faulty
   unfolding while_refusal
   while_unsound s = rw s
 
-  pub while_sound : while_refusal t l kind st ≡ 0 → sound_by t l st ≡ true
-  unfolding while_refusal
-  while_sound e = split (sound_by t l st) (λ s. s) (λ s. never (let w : ◌≡◌ {A = ℕ} 34 0 = rw s at e in omega arith))
+  pub while_sound : (count : ℕ) → while_refusal t l kind st ≡ Ok count → sound_by t l st ≡ true
+  while_sound count e = split (sound_by t l st) (λ s. s) (λ s. let w = sym (while_unsound s) ∙ e in never (cc))
 
-  pub while_planned : sound_by t l st ≡ true → (p : Plan) → p ≡ while_plan l kind st → p.refusal ≡ while_refusal t l kind st
+  pub while_planned : sound_by t l st ≡ true → while_refusal t l kind st ≡ while_plan l kind st
   unfolding while_refusal
-  while_planned s p e = rw s (ap (λ (q : Plan). q.refusal) e)
-
-  pub plan_counts : (while_plan l kind st).refusal ≡ 0 → (while_plan l kind st).count ≡ (while_run l kind st).count
-  plan_counts e = let p = plan_inv l kind 0 (tokens_left l st.nums) st e in omega (arith, p.2)
+  while_planned s = rw s
 
 -- a token is held and of another kind: nothing is done
 module _ (t : ℕ) (l : List ℕ) (kind room : ℕ) (st : State) (s : sound_by t l st ≡ true) (some : st.nums.held_len ≡ 0 → ⊥) (other : goes_on l kind st.nums st.held ≡ false) where
@@ -305,12 +299,11 @@ module _ (t : ℕ) (l : List ℕ) (kind room : ℕ) (st : State) (s : sound_by t
       let e : 0 + 1 - st.nums.held_len ≡ 0 = split_eq st.nums.held_len 0 (λ z. absurd (some z)) (λ z. omega arith) in
       ap (λ (k : ℕ). fits_for l k st.nums) e
 
-  other_none : while_refusal t l kind st ≡ 0
-  unfolding while_refusal
+  other_none : while_refusal t l kind st ≡ Ok 0
   other_none =
       let p = plan_stop l kind 0 (tokens_left l st.nums) st fits_now stays in
       let z : eqb (fill l 0 st).nums.held_len 0 ≡ false = ap (λ (x : State). eqb x.nums.held_len 0) (fill_held l st some) ∙ ne_eqb st.nums.held_len 0 some in
-      rw s (ap (λ (q : Plan). q.refusal) p ∙ ap (λ (b : Bool). pick (both (eqb kind 67) b) 33 0) z ∙ ap (λ (b : Bool). pick b 33 0) (both_false (eqb kind 67)))
+      while_planned t l kind st s ∙ p ∙ ap (λ (b : Bool). pick b (Err StoreShort) (Ok 0)) (ap (both (eqb kind 67)) z ∙ both_false (eqb kind 67))
 
   pub while_other : shows 0 st ≡ bump_while_by t l kind room st
   unfolding bump_while_by
@@ -318,4 +311,4 @@ module _ (t : ℕ) (l : List ℕ) (kind room : ℕ) (st : State) (s : sound_by t
       let run : while_run l kind st ≡ stops (fill l 0 st) = run_stop l kind 0 0 st stays (tokens_left l st.nums) in
       let long = ap (λ (r : Run). length r.written) run in
       ap (shows 0) (sym (fill_held l st some)) ∙ ap while_turn (sym run) ∙ stored_done room st (while_turn (while_run l kind st)) (omega arith)
-      ∙ unless_yes (while_refusal t l kind st) st 0 (sym other_none) (stored_by room st (while_turn (while_run l kind st))) refl
+      ∙ unless_yes ℕ (while_refusal t l kind st) st (stored_by room st (while_turn (while_run l kind st))) 0 other_none

@@ -1,29 +1,20 @@
 -- The six words of the numbers, once some of them were written; and the short tests. Assumes nothing.
 use Prim.Native.Nat.{ℕ, ◌+◌, ◌-◌, ◌*◌, ◌/◌, ◌%◌, ◌≤◌, ◌<◌}
-use mathlib.Core.Path.{◌≡◌, refl, sym, ap, ◌∙◌}
-use mathlib.Core.List.{List, [], ◌∷◌}
+use mathlib.Core.Path.{◌≡◌, refl, sym, ◌∙◌}
+use mathlib.Core.List.{List}
 use mathlib.Core.Bool.{true}
 use native.Mathlib.Omega.{arith}
 use lib.Dec.{leb, ltb, eqb}
 use lib.ListN.{get_or, length, set}
 use borrow.Author.Tests.{eqb-true, le-leb, lt-leb, ltb-true, ne_eqb}
+use Rattle.ahead.proofs.Lent.{by_six}
 use Rattle.laws.proofs.Cases.{both_inv, split_le}
 use Rattle.laws.specs.Bools.{both}
 use Rattle.looks.specs.Buffer.{nums_of, state_of}
 use Rattle.looks.specs.Front.{less_held, less_waiting}
 use Rattle.looks.specs.Numbered.{token_count}
 use Rattle.looks.specs.Sound.{count_sum, none_by, some_by, sound_by}
-use Rattle.looks.specs.declared.state.Nums.{Nums}
-
-pub by_six : (P : List ℕ → Type 0) → ((a b c d e f : ℕ) → P (a ∷ b ∷ c ∷ d ∷ e ∷ f ∷ [])) → (w : List ℕ) → length w ≡ 6 → P w
-by_six P p [] h = absurd (omega arith)
-by_six P p (a ∷ []) h = absurd (omega arith)
-by_six P p (a ∷ b ∷ []) h = absurd (omega arith)
-by_six P p (a ∷ b ∷ c ∷ []) h = absurd (omega arith)
-by_six P p (a ∷ b ∷ c ∷ d ∷ []) h = absurd (omega arith)
-by_six P p (a ∷ b ∷ c ∷ d ∷ e ∷ []) h = absurd (omega arith)
-by_six P p (a ∷ b ∷ c ∷ d ∷ e ∷ f ∷ []) h = p a b c d e f
-by_six P p (a ∷ b ∷ c ∷ d ∷ e ∷ f ∷ g ∷ w) h = absurd (omega arith)
+use Rattle.ahead.specs.declared.Nums.{Nums}
 
 module _ (w : List ℕ) (h : length w ≡ 6) (x y z : ℕ) where
   pub six_last : nums_of (set (set w 5 x) 0 y) ≡ record { next = y; keep = get_or w 1 0; held_at = get_or w 2 0; held_len = get_or w 3 0; wait_at = get_or w 4 0; wait_len = x }
@@ -37,13 +28,6 @@ module _ (w : List ℕ) (h : length w ≡ 6) (x y z : ℕ) where
 
   pub six_held : nums_of (set (set w 2 x) 3 y) ≡ record { next = get_or w 0 0; keep = get_or w 1 0; held_at = x; held_len = y; wait_at = get_or w 4 0; wait_len = get_or w 5 0 }
   six_held = by_six (λ v. nums_of (set (set v 2 x) 3 y) ≡ record { next = get_or v 0 0; keep = get_or v 1 0; held_at = x; held_len = y; wait_at = get_or v 4 0; wait_len = get_or v 5 0 }) (λ a b c d e f. refl) w h
-
--- the numbers tell the words
-pub six_same : (w v : List ℕ) → length w ≡ 6 → length v ≡ 6 → nums_of w ≡ nums_of v → w ≡ v
-six_same w v h k =
-    by_six (λ x. nums_of x ≡ nums_of v → x ≡ v)
-    (λ a b c d e f. by_six (λ y. nums_of (a ∷ b ∷ c ∷ d ∷ e ∷ f ∷ []) ≡ nums_of y → (a ∷ b ∷ c ∷ d ∷ e ∷ f ∷ []) ≡ y)
-    (λ a' b' c' d' e' f' q. ap (λ (m : Nums). m.next ∷ m.keep ∷ m.held_at ∷ m.held_len ∷ m.wait_at ∷ m.wait_len ∷ []) q) v k) w h
 
 -- a number of a token lies in the list where its words do
 pub reach_words : (l : List ℕ) (n : ℕ) → n ≤ 4294967295 → leb (n * 3) (length l) ≡ leb n (token_count l)

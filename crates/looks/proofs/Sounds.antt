@@ -11,7 +11,7 @@ use Rattle.laws.proofs.Cases.{both_inv}
 use Rattle.laws.specs.Bools.{both}
 use Rattle.looks.specs.Numbered.{token_count}
 use Rattle.looks.specs.Sound.{ascends_by, bounded_by, count_sum, follows_by}
-use Rattle.looks.specs.declared.state.Nums.{Nums}
+use Rattle.ahead.specs.declared.Nums.{Nums}
 
 module _ (count at j : ℕ) (h : j < count) where
   step_left : count - j ≡ suc (count - (j + 1))
@@ -49,18 +49,6 @@ module _ (count at j : ℕ) (h : count ≤ j) where
   pub sum_end : (ring : List ℕ) → count_sum ring (count - j) (at + j) ≡ 0
   unfolding count_sum
   sum_end ring = ap (λ (n : ℕ). count_sum ring n (at + j)) step_none
-
-pub ascends_first : (count at : ℕ) (white : Bool) (l : List ℕ) (size : ℕ) (ring : List ℕ) (top : ℕ) → ascends_by white l size ring (count - 0) (at + 0) 0 top ≡ ascends_by white l size ring count at 0 top
-ascends_first count at white l size ring top =
-    let e : count - 0 ≡ count = omega arith in
-    let f : at + 0 ≡ at = omega arith in
-    rw (e, f)
-
-pub sum_first : (count at : ℕ) (ring : List ℕ) → 0 + count_sum ring (count - 0) (at + 0) ≡ count_sum ring count at
-sum_first count at ring =
-    let e : count - 0 ≡ count = omega arith in
-    let f : at + 0 ≡ at = omega arith in
-    rw (e, f) (omega arith)
 
 -- what the tests of the numbers say
 pub record Bounded (l : List ℕ) (m : Nums) : Type 0 where

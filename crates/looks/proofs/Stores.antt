@@ -1,19 +1,13 @@
 -- Steps of writing tokens to the front of a store. Assumes nothing.
 use Prim.Native.Nat.{ℕ, zero, suc, ◌+◌, ◌-◌, ◌*◌, ◌%◌, ◌≤◌, ◌<◌}
 use mathlib.Core.Path.{◌≡◌, refl, sym, ap, ◌∙◌}
-use mathlib.Core.List.{List, [], ◌∷◌, ◌++◌}
+use mathlib.Core.List.{List, ◌++◌}
 use native.Mathlib.Omega.{arith}
 use lib.Seq.{length-sets, sets}
-use lib.ListN.{get_or, length, set}
+use lib.ListN.{get_or, length}
 use Rattle.laws.proofs.Sets.{sets_append}
 use Rattle.looks.specs.Front.{wait_words}
 use Rattle.looks.specs.Numbered.{token_at}
-
-pub words_store : (out : List ℕ) (p a b c : ℕ) → set (set (set out p a) (p + 1) b) (p + 2) c ≡ sets out p (a ∷ b ∷ c ∷ [])
-words_store out p a b c =
-    let e₁ : p + 1 ≡ suc p = omega arith in
-    let e₂ : p + 2 ≡ suc (suc p) = omega arith in
-    rw (e₁, e₂)
 
 pub wait_length : (n : ℕ) (l ring : List ℕ) (at : ℕ) → length (wait_words n l ring at) ≡ n * 3
 unfolding wait_words
@@ -26,13 +20,6 @@ pub record Puts (l ring out₀ out : List ℕ) (from count at i : ℕ) : Type 0 
   pub stores : sets out (at + i * 3) (wait_words (count - i) l ring (from + i)) ≡ sets out₀ at (wait_words count l ring from)
 
 module _ (l ring out₀ : List ℕ) (from count at : ℕ) where
-  pub puts_first : Puts l ring out₀ out₀ from count at 0
-  puts_first =
-      let e : count - 0 ≡ count = omega arith in
-      let f : from + 0 ≡ from = omega arith in
-      let g : at + 0 * 3 ≡ at = omega arith in
-      record { same = refl; stores = rw (e, f, g) }
-
   module _ (out : List ℕ) (i : ℕ) (w : Puts l ring out₀ out from count at i) where
     pub puts_end : count ≤ i → out ≡ sets out₀ at (wait_words count l ring from)
     unfolding wait_words

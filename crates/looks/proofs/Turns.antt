@@ -1,14 +1,15 @@
 -- What a call that writes gives: refused, short of room, or done. Assumes nothing.
 use Prim.Native.Nat.{ℕ, suc, ◌+◌, ◌-◌, ◌*◌, ◌%◌, ◌≤◌, ◌<◌}
-use mathlib.Core.Path.{◌≡◌, refl, sym, ap, ap₂, ◌∙◌}
+use mathlib.Core.Path.{◌≡◌, refl, ap, ap₂, ◌∙◌}
 use mathlib.Core.List.{List, ◌++◌}
-use mathlib.Core.Bool.{Bool, true, false}
+use mathlib.Core.Bool.{Bool, true}
 use native.Mathlib.Omega.{arith}
 use lib.Dec.{ltb}
 use lib.Seq.{sets}
 use lib.ListN.{get_or, length, length-append, set}
-use borrow.Author.Tests.{eq-eqb, le-leb, leb-true, lt-leb, ne_eqb}
-use Rattle.laws.proofs.Cases.{both_inv, never, split, split_eq, split_le}
+use borrow.Author.Tests.{le-leb, leb-true, lt-leb}
+use Rattle.std.specs.Prelude.{Result, Ok, Err}
+use Rattle.laws.proofs.Cases.{both_inv, split, split_eq, split_le}
 use Rattle.laws.specs.Bools.{both, pick}
 use Rattle.looks.proofs.Fronts.{fill_held, fill_none, front_held, front_last, front_more}
 use Rattle.looks.proofs.Stores.{wait_length}
@@ -17,30 +18,36 @@ use Rattle.looks.specs.Calls.{Turn, bumped, flushed, front_turn, refuses, shows,
 use Rattle.looks.specs.Front.{front_words, less_held, less_waiting, nth_of, nth_words, wait_words, white_of, white_words}
 use Rattle.looks.specs.Numbered.{dark, end_at, kind_at, list_end, start_at, token_count}
 use Rattle.looks.specs.Sound.{bounded_by, count_sum, sound_by}
-use Rattle.looks.specs.declared.look.Looked.{Looked}
-use Rattle.looks.specs.declared.state.Nums.{Nums}
+use Rattle.looks.specs.declared.look.Done.{Done}
+use Rattle.looks.specs.declared.look.Stop.{Stop}
+use Rattle.looks.specs.declared.look.Stop.TheVariants.{StoreShort}
+use Rattle.ahead.specs.declared.Nums.{Nums}
 
 -- the state, the answer and the store by a turn
-abbrev Parts : List ℕ → State → Looked → List ℕ → Turn → Type 0
+abbrev Parts : List ℕ → State → Result Done Stop → List ℕ → Turn → Type 0
 Parts o st answer o' t = (st ≡ t.state) × (answer ≡ t.answer) × (o' ≡ sets o 0 t.written)
 
 pub parts : (o : List ℕ) (t u : Turn) → t ≡ u → Parts o t.state t.answer (sets o 0 t.written) u
 parts o t u e = (ap (λ (x : Turn). x.state) e, ap (λ (x : Turn). x.answer) e, ap (λ (x : Turn). sets o 0 x.written) e)
 
-pub parts_of : (o : List ℕ) (t u : Turn) → t ≡ u → (st : State) (answer : Looked) (o' : List ℕ) → Parts o st answer o' t → Parts o st answer o' u
+pub parts_of : (o : List ℕ) (t u : Turn) → t ≡ u → (st : State) (answer : Result Done Stop) (o' : List ℕ) → Parts o st answer o' t → Parts o st answer o' u
 parts_of o t u e st answer o' p =
     let q = parts o t u e in
     (p.0 ∙ q.0, p.1 ∙ q.1, p.2 ∙ q.2)
 
-module _ (no : ℕ) (st : State) (number : ℕ) (is : number ≡ no) (t : Turn) where
-  pub unless_no : (number ≡ 0 → ⊥) → refuses number st ≡ unless no st t
-  unless_no h = rw (ne_eqb no 0 (λ z. h (is ∙ z))) (ap (λ (k : ℕ). refuses k st) is)
+-- what is not given is 0
+pub zeros : (d : Done) → d.count ≡ 0 → d.value ≡ 0 → d.start ≡ 0 → d.end ≡ 0 → d ≡ record { count = 0; value = 0; start = 0; end = 0 }
+zeros d a b c e i = record { count = a i; value = b i; start = c i; end = e i }
 
-  pub unless_yes : number ≡ 0 → t ≡ unless no st t
-  unless_yes h = rw (eq-eqb no 0 (sym is ∙ h))
+module _ (A : Type 0) (no : Result A Stop) (st : State) (t : Turn) where
+  pub unless_no : (stop : Stop) → no ≡ Err stop → refuses stop st ≡ unless no st t
+  unless_no stop h = rw h
+
+  pub unless_yes : (a : A) → no ≡ Ok a → t ≡ unless no st t
+  unless_yes a h = rw h
 
 module _ (room : ℕ) (st : State) (t : Turn) where
-  pub stored_short : room < length t.written → refuses 33 st ≡ stored_by room st t
+  pub stored_short : room < length t.written → refuses StoreShort st ≡ stored_by room st t
   stored_short h = rw (lt-leb (length t.written) room h)
 
   pub stored_done : length t.written ≤ room → t ≡ stored_by room st t
@@ -109,18 +116,6 @@ module _ (l : List ℕ) (f f' : State) (e : f ≡ f') (white : ℕ) (ew : white 
       ∙ ap (λ (k : ℕ). state_of (less_waiting k f'.nums) f'.held (set f'.counts (f'.nums.held_at % 8) 0) f'.waiting) ew
 
 -- a front that is emitted only where it is wanted
-module _ (l : List ℕ) (a : Looked) (f : State) where
+module _ (l : List ℕ) (a : Result Done Stop) (f : State) where
   abbrev pub perhaps : Bool → Turn
   perhaps b = pick b (front_turn l a f) (shows 0 f)
-
-  pub perhaps_length : (b : Bool) → length (perhaps b).written ≡ pick b (white_of f + 1) 0 * 3
-  perhaps_length true = let e = front_length l f in omega arith
-  perhaps_length false = refl
-
-  pub perhaps_none : (b : Bool) → pick b (white_of f + 1) 0 ≡ 0 → shows 0 f ≡ perhaps b
-  perhaps_none true h = never (let w = h in omega arith)
-  perhaps_none false h = refl
-
-  pub perhaps_some : (b : Bool) → (pick b (white_of f + 1) 0 ≡ 0 → ⊥) → (front_turn l a f ≡ perhaps b) × (white_of f + 1 ≡ pick b (white_of f + 1) 0)
-  perhaps_some true h = (refl, refl)
-  perhaps_some false h = absurd (h refl)

@@ -1,24 +1,11 @@
 -- Document 01, "The lookahead buffer": the two rings of the state, and filling.
 use Rattle.std.specs.Prelude.{ℕ, zero, suc, ◌+◌, ◌-◌, ◌%◌, ◌≤◌, ◌<◌, ◌≡◌, List, [], Bool, true, leb, ltb, get_or, set}
+pub use Rattle.ahead.specs.View.{State, nums_of, state_of, view_of}
 use Rattle.laws.specs.Bools.{both, pick}
 use Rattle.looks.specs.Numbered.{dark, token_count}
 use Rattle.looks.specs.declared.emit.Words.{Words}
-use Rattle.looks.specs.declared.state.Nums.{Nums}
+use Rattle.ahead.specs.declared.Nums.{Nums}
 use Rattle.rows.specs.Rows.{row_words}
-
--- the numbers, by the six words of the state
-abbrev pub nums_of : List ℕ → Nums
-nums_of w = record { next = get_or w 0 0; keep = get_or w 1 0; held_at = get_or w 2 0; held_len = get_or w 3 0; wait_at = get_or w 4 0; wait_len = get_or w 5 0 }
-
--- the state: its numbers, the held tokens by number, the count of white space before each, and the waiting white space by number
-pub record State : Type 0 where
-  pub nums : Nums
-  pub held : List ℕ
-  pub counts : List ℕ
-  pub waiting : List ℕ
-
-abbrev pub state_of : Nums → List ℕ → List ℕ → List ℕ → State
-state_of m held counts waiting = record { nums = m; held = held; counts = counts; waiting = waiting }
 
 -- the number in a ring of the given size, i after its start
 abbrev pub ring_at : ℕ → List ℕ → ℕ → ℕ → ℕ

@@ -1,9 +1,10 @@
 -- Document 01, "The lookahead buffer": what stands in front of a filled state, and the numbers once it is emitted.
-use Rattle.std.specs.Prelude.{ℕ, zero, suc, ◌+◌, ◌-◌, ◌%◌, ◌≡◌, List, [], ◌++◌, Bool, ltb, eqb, get_or}
+use Rattle.std.specs.Prelude.{ℕ, zero, suc, ◌+◌, ◌-◌, ◌%◌, ◌≡◌, List, [], ◌++◌, ltb, eqb, get_or}
+pub use Rattle.ahead.specs.View.{yes}
 use Rattle.laws.specs.Bools.{pick}
 use Rattle.looks.specs.Buffer.{State, fill, ring_at, state_of}
 use Rattle.looks.specs.Numbered.{eof_words, token_at}
-use Rattle.looks.specs.declared.state.Nums.{Nums}
+use Rattle.ahead.specs.declared.Nums.{Nums}
 
 -- the words of the n-th held token, or the end-of-file token
 unfoldable pub nth_words : List ℕ → ℕ → Nums → List ℕ → List ℕ
@@ -44,7 +45,3 @@ less_held m =
 abbrev pub Fronted : List ℕ → Nums → List ℕ → List ℕ → ℕ → List ℕ → Type 0
 Fronted l m held counts white words =
     (w : List ℕ) → (white ≡ white_of (fill l 0 (state_of m held counts w))) × (words ≡ nth_of l 0 (fill l 0 (state_of m held counts w)))
-
--- 1 for yes, 0 for no
-abbrev pub yes : Bool → ℕ
-yes b = pick b 1 0

@@ -1,20 +1,15 @@
 -- Document 01, refusal 34: the faults of a lent list, and of a lent state over it.
 use Rattle.std.specs.Prelude.{ℕ, zero, suc, ◌+◌, ◌%◌, List, Bool, true, false, leb, ltb, eqb, get_or}
+use Rattle.std.specs.Result.{is_ok}
 use Rattle.laws.specs.Bools.{both, either, same}
 use Rattle.looks.specs.Buffer.{State}
 use Rattle.looks.specs.Numbered.{is_white, kind_at, token_count}
-use Rattle.looks.specs.declared.state.Nums.{Nums}
+use Rattle.ahead.specs.declared.Nums.{Nums}
 use Rattle.rows.specs.Rows.{list_check}
-use Rattle.rows.specs.declared.Checked.{Checked}
-use Rattle.rows.specs.declared.Checked.TheVariants.{Faulty, Good}
-
-abbrev pub good : Checked → Bool
-good Good = true
-good (Faulty r) = false
 
 -- a list not of whole records, or faulty by 42 or 43
 unfoldable pub whole_by : List ℕ → Bool
-whole_by l = good (list_check l)
+whole_by l = is_ok (list_check l)
 
 -- a held or waiting number x ascends, from low on below top, and is of white space or is not
 abbrev pub follows_by : Bool → List ℕ → ℕ → ℕ → ℕ → Bool

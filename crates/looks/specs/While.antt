@@ -1,14 +1,15 @@
 -- Document 01, "The lookahead buffer": `bump_while`.
-use Rattle.std.specs.Prelude.{ℕ, zero, suc, ◌+◌, ◌-◌, ◌≤◌, ◌<◌, ◌≡◌, List, [], ◌++◌, Bool, true, ltb, eqb, get_or, length}
+use Rattle.std.specs.Prelude.{ℕ, zero, suc, ◌+◌, ◌-◌, ◌≤◌, ◌<◌, ◌≡◌, List, [], ◌++◌, Bool, true, Result, Ok, Err, ltb, eqb, get_or, length}
 use Rattle.laws.specs.Bools.{both, pick}
-use Rattle.looks.specs.Buffer.{State, fill, fits, gather_nums, state_of}
+use Rattle.looks.specs.Answer.{done}
+use Rattle.looks.specs.Buffer.{State, fill, fits, gather_nums}
 use Rattle.looks.specs.Calls.{Turn, bumped, stored_by, unless}
 use Rattle.looks.specs.Front.{front_words, nth_words, white_of, yes}
 use Rattle.looks.specs.Numbered.{token_count}
 use Rattle.looks.specs.Sound.{count_sum, sound_by}
-use Rattle.looks.specs.declared.look.Looked.TheVariants.{Done}
-use Rattle.looks.specs.declared.state.Nums.{Nums}
-use Rattle.looks.specs.declared.whiles.Plan.{Plan}
+use Rattle.looks.specs.declared.look.Stop.{Stop}
+use Rattle.looks.specs.declared.look.Stop.TheVariants.{Faulty, StoreShort, WaitingFull}
+use Rattle.ahead.specs.declared.Nums.{Nums}
 
 -- the front of a filled state is a held token of the kind
 abbrev pub goes_on : List ℕ → ℕ → Nums → List ℕ → Bool
@@ -39,27 +40,26 @@ run_of l kind (suc n) f =
 abbrev pub tokens_left : List ℕ → Nums → ℕ
 tokens_left l m = m.held_len + (token_count l - m.next)
 
--- 31, or 33 where kind 67 was asked for and the run came to the end, since it would never stop there; and the count
-unfoldable pub plan_of : List ℕ → ℕ → ℕ → ℕ → State → Plan
+-- the count; 31, or 33 where kind 67 was asked for and the run came to the end, since it would never stop there
+unfoldable pub plan_of : List ℕ → ℕ → ℕ → ℕ → State → Result ℕ Stop
 plan_of l kind before n st =
     pick (both (fits l 0 st.nums) (run_of l kind n (fill l 0 st)).fitting)
-    (record {
-      refusal = pick (both (eqb kind 67) (eqb (run_of l kind n (fill l 0 st)).state.nums.held_len 0)) 33 0;
-      count = before + (run_of l kind n (fill l 0 st)).count;
-    })
-    (record { refusal = 31; count = 0 })
+    (pick (both (eqb kind 67) (eqb (run_of l kind n (fill l 0 st)).state.nums.held_len 0))
+    (Err StoreShort)
+    (Ok (before + (run_of l kind n (fill l 0 st)).count)))
+    (Err WaitingFull)
 
-abbrev pub while_plan : List ℕ → ℕ → State → Plan
+abbrev pub while_plan : List ℕ → ℕ → State → Result ℕ Stop
 while_plan l kind st = plan_of l kind 0 (tokens_left l st.nums) st
 
 abbrev pub while_run : List ℕ → ℕ → State → Run
 while_run l kind st = run_of l kind (tokens_left l st.nums) (fill l 0 st)
 
-unfoldable pub while_refusal : ℕ → List ℕ → ℕ → State → ℕ
-while_refusal t l kind st = pick (sound_by t l st) (while_plan l kind st).refusal 34
+unfoldable pub while_refusal : ℕ → List ℕ → ℕ → State → Result ℕ Stop
+while_refusal t l kind st = pick (sound_by t l st) (while_plan l kind st) (Err Faulty)
 
 abbrev pub while_turn : Run → Turn
-while_turn r = record { state = r.state; answer = Done r.count (yes (ltb 0 r.count)) 0 0; written = r.written }
+while_turn r = record { state = r.state; answer = done r.count (yes (ltb 0 r.count)) 0 0; written = r.written }
 
 unfoldable pub bump_while_by : ℕ → List ℕ → ℕ → ℕ → State → Turn
 bump_while_by t l kind room st = unless (while_refusal t l kind st) st (stored_by room st (while_turn (while_run l kind st)))
@@ -67,10 +67,6 @@ bump_while_by t l kind room st = unless (while_refusal t l kind st) st (stored_b
 -- the numbers of a state once it is filled
 abbrev pub fill_nums : List ℕ → Nums → Nums
 fill_nums l m = pick (eqb m.held_len 0) (gather_nums l m) m
-
--- whatever waits now
-abbrev pub Planned : List ℕ → ℕ → Nums → List ℕ → List ℕ → Plan → Type 0
-Planned l kind m held counts p = (w : List ℕ) → p ≡ while_plan l kind (state_of m held counts w)
 
 -- what a plan asks of the numbers
 pub record Plannable (l : List ℕ) (m : Nums) (held counts : List ℕ) : Type 0 where

@@ -1,14 +1,19 @@
 // What stands in front of a filled state, and its way to the store.
-ghost use Rattle.std.specs.Prelude.{◌+◌, ◌*◌, ◌%◌, ◌≤◌, ◌≡◌, get_or, length};
+ghost use Rattle.std.specs.Prelude.{◌+◌, ◌*◌, ◌%◌, ◌≤◌, ◌<◌, ◌≡◌, get_or, length};
 ghost use Rattle.std.proofs.lemmas.List.Edits.{sets};
-ghost use Rattle.looks.specs.Buffer.{nums_of, ring_at, words_of};
-ghost use Rattle.looks.specs.Front.{front_white, less_held, less_waiting, nth_words, wait_words};
+ghost use Rattle.ahead.specs.View.{nums_of, view_of};
+ghost use Rattle.looks.specs.Buffer.{ring_at, words_of};
+ghost use Rattle.looks.specs.Calls.{with_nums};
+ghost use Rattle.looks.specs.Front.{less_held, less_waiting, nth_of, wait_words, white_of};
 ghost use Rattle.looks.specs.Numbered.{eof_words, token_at};
 
 use crate::list::{kind_at, list_end, wide, word};
-use crate::state::Nums;
+use ahead::{Ahead, HELD_AT, HELD_LEN, Nums, WAIT_AT, WAIT_LEN};
 
-// A token as it stands in a list.
+// The kind of the end-of-file token, by number.
+pub(crate) const EOF: u32 = 67;
+
+// A token as it stands in a list. Its kind is a number there, and in the calls for C.
 #[derive(Clone, Copy)]
 pub struct Words {
     pub kind: u32,
@@ -16,16 +21,12 @@ pub struct Words {
     pub end: u32,
 }
 
-pub(crate) fn slot8(at: usize, i: usize) -> usize
-    ensures { result ≡ (at + i) % 8 }
+// The slot i after another in a ring.
+pub(crate) fn slot<const SIZE: usize>(at: usize, i: usize) -> usize
+    requires { (0 < SIZE) × (SIZE ≤ 256) }
+    ensures { result ≡ (at + i) % SIZE }
 {
-    (at % 8 + i % 8) % 8
-}
-
-fn slot256(at: usize, i: usize) -> usize
-    ensures { result ≡ (at + i) % 256 }
-{
-    (at % 256 + i % 256) % 256
+    (at % SIZE + i % SIZE) % SIZE
 }
 
 pub(crate) fn token_at(list: &[u32], i: u32) -> Words
@@ -51,46 +52,46 @@ pub(crate) fn eof_words(list: &[u32]) -> Words
 {
     let end = list_end(list);
     Words {
-        kind: 67,
+        kind: EOF,
         start: end,
         end,
     }
 }
 
 // The held token n, or the end-of-file token.
-pub(crate) fn nth_words(nums: &[u32; 6], held: &[u32; 8], n: usize, list: &[u32]) -> Words
-    ensures { words_of result ≡ nth_words list.now n (nums_of nums.now) held.now }
+pub(crate) fn nth_words(state: &Ahead, n: usize, list: &[u32]) -> Words
+    ensures { words_of result ≡ nth_of list.now n (view_of state.now) }
 {
-    if n < wide(nums[3]) {
-        return token_at(list, held[slot8(wide(nums[2]), n)]);
+    if n < wide(state.nums[HELD_LEN]) {
+        return token_at(list, state.held[slot::<8>(wide(state.nums[HELD_AT]), n)]);
     }
     eof_words(list)
 }
 
 // Its kind alone.
-pub(crate) fn nth_kind(nums: &[u32; 6], held: &[u32; 8], n: usize, list: &[u32]) -> u32
-    ensures { result ≡ get_or (nth_words list.now n (nums_of nums.now) held.now) 0 0 }
+pub(crate) fn nth_kind(state: &Ahead, n: usize, list: &[u32]) -> u32
+    ensures { result ≡ get_or (nth_of list.now n (view_of state.now)) 0 0 }
 {
-    if n < wide(nums[3]) {
-        return kind_at(list, held[slot8(wide(nums[2]), n)]);
+    if n < wide(state.nums[HELD_LEN]) {
+        return kind_at(list, state.held[slot::<8>(wide(state.nums[HELD_AT]), n)]);
     }
-    67
+    EOF
 }
 
-pub(crate) fn count_before(nums: &[u32; 6], counts: &[u32; 8], n: usize) -> u32
-    ensures { result ≡ ring_at 8 counts.now (nums_of nums.now).held_at n }
+pub(crate) fn count_before(state: &Ahead, n: usize) -> u32
+    ensures { result ≡ ring_at 8 state.now.counts (nums_of state.now.nums).held_at n }
 {
-    counts[slot8(wide(nums[2]), n)]
+    state.counts[slot::<8>(wide(state.nums[HELD_AT]), n)]
 }
 
 // What waits before the first held token, or all if none is held.
-pub(crate) fn white_now(nums: &[u32; 6], counts: &[u32; 8]) -> u32
-    ensures { result ≡ front_white (nums_of nums.now) counts.now }
+pub(crate) fn white_now(state: &Ahead) -> u32
+    ensures { result ≡ white_of (view_of state.now) }
 {
-    if nums[3] == 0 {
-        return nums[5];
+    if state.nums[HELD_LEN] == 0 {
+        return state.nums[WAIT_LEN];
     }
-    count_before(nums, counts, 0)
+    count_before(state, 0)
 }
 
 pub(crate) fn put_words(words: Words, out: &mut [u32], at: usize)
@@ -102,23 +103,15 @@ pub(crate) fn put_words(words: Words, out: &mut [u32], at: usize)
     out[at + 2] = words.end;
 }
 
-// The first `count` that wait, from the slot `from` on, to the front of the store.
-pub(crate) fn put_waiting(
-    list: &[u32],
-    waiting: &[u32; 256],
-    from: usize,
-    count: usize,
-    out: &mut [u32],
-    at: usize,
-)
+// The first `count` that wait, to the store at `at`.
+pub(crate) fn put_waiting(state: &Ahead, count: usize, list: &[u32], out: &mut [u32], at: usize)
     requires { at + count * 3 ≤ length out.old }
-    ensures { out.new ≡ sets out.old at (wait_words count list.now waiting.now «from») }
+    ensures { out.new ≡ sets out.old at (wait_words count list.now state.now.waiting (nums_of state.now.nums).wait_at) }
 {
-    let mut i: usize = 0;
-    while i < count {
-        let words = token_at(list, waiting[slot256(from, i)]);
+    let from = wide(state.nums[WAIT_AT]);
+    for i in 0..count {
+        let words = token_at(list, state.waiting[slot::<256>(from, i)]);
         put_words(words, out, at + i * 3);
-        i = i + 1;
     }
 }
 
@@ -127,7 +120,7 @@ pub(crate) fn less_waiting(nums: Nums, count: usize) -> Nums
     ensures { result ≡ less_waiting count nums }
 {
     let mut n = nums;
-    n.wait_at = slot256(nums.wait_at, count);
+    n.wait_at = slot::<256>(nums.wait_at, count);
     n.wait_len = nums.wait_len - count;
     n
 }
@@ -139,30 +132,31 @@ pub(crate) fn less_held(nums: Nums) -> Nums
         return nums;
     }
     let mut n = nums;
-    n.held_at = slot8(nums.held_at, 1);
+    n.held_at = slot::<8>(nums.held_at, 1);
     n.held_len = nums.held_len - 1;
     n
 }
 
-// The same where the numbers lie. They are read as a slice once: that tells the proof that there are six.
-pub(crate) fn take_waiting(nums: &mut [u32; 6], count: u32)
-    requires { count ≤ (nums_of nums.old).wait_len }
-    ensures { nums_of nums.new ≡ less_waiting count (nums_of nums.old) }
+// The same where the numbers lie: two words are written, and not six as by way of `Nums`. They are read as a slice once: that tells the proof that
+// there are six.
+pub(crate) fn take_waiting(state: &mut Ahead, count: u32)
+    requires { count ≤ (nums_of state.old.nums).wait_len }
+    ensures { view_of state.new ≡ with_nums (less_waiting count (nums_of state.old.nums)) (view_of state.old) }
 {
-    let at = word(nums, 4);
-    let len = nums[5];
-    nums[4] = (at % 256 + count % 256) % 256;
-    nums[5] = len - count;
+    let at = word(&state.nums, WAIT_AT);
+    let len = state.nums[WAIT_LEN];
+    state.nums[WAIT_AT] = (at % 256 + count % 256) % 256;
+    state.nums[WAIT_LEN] = len - count;
 }
 
-pub(crate) fn take_held(nums: &mut [u32; 6])
-    ensures { nums_of nums.new ≡ less_held (nums_of nums.old) }
+pub(crate) fn take_held(state: &mut Ahead)
+    ensures { view_of state.new ≡ with_nums (less_held (nums_of state.old.nums)) (view_of state.old) }
 {
-    let at = word(nums, 2);
-    let len = nums[3];
+    let at = word(&state.nums, HELD_AT);
+    let len = state.nums[HELD_LEN];
     if len == 0 {
         return;
     }
-    nums[2] = (at % 8 + 1) % 8;
-    nums[3] = len - 1;
+    state.nums[HELD_AT] = (at % 8 + 1) % 8;
+    state.nums[HELD_LEN] = len - 1;
 }

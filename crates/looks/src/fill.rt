@@ -1,18 +1,20 @@
 // Filling: the numbers by themselves, so that a refusal is known before anything is written, and the arrays where they lie.
 ghost use Rattle.std.specs.Prelude.{◌+◌, ◌-◌, ◌≤◌, ◌≡◌, ltb};
 ghost use Rattle.laws.specs.Bools.{pick};
-ghost use Rattle.looks.specs.Buffer.{Gatherable, Roomy, fits_for, gather, gather_at, gather_to, gathers, nums_of, queued, state_of, white_to};
+ghost use Rattle.ahead.specs.View.{nums_of, view_of};
+ghost use Rattle.looks.specs.Buffer.{Gatherable, Roomy, fits_for, gather, gather_at, gather_to, gathers, queued, white_to};
 ghost use Rattle.looks.specs.Numbered.{token_count};
 
 use crate::list::{count_of, next_dark, wide, word};
-use crate::state::Nums;
+use ahead::{Ahead, HELD_AT, HELD_LEN, KEEP, NEXT, Nums, WAIT_AT, WAIT_LEN};
 
-pub(crate) fn white_to(nums: Nums, to: u32) -> u32
-    requires { nums.next ≤ to }
-    ensures { result ≡ white_to to nums }
+// How much white space is queued up to `to`.
+pub(crate) fn white_at(keep: u32, first: u32, to: u32) -> u32
+    requires { first ≤ to }
+    ensures { result ≡ pick (ltb 0 keep) (to - first) 0 }
 {
-    if 0 < nums.keep {
-        return to - nums.next;
+    if 0 < keep {
+        return to - first;
     }
     0
 }
@@ -22,7 +24,7 @@ pub(crate) fn gather_to(nums: Nums, to: u32, count: u32) -> Nums
     ensures { result ≡ gather_to to count nums }
 {
     let mut n = nums;
-    n.wait_len = nums.wait_len + wide(white_to(nums, to));
+    n.wait_len = nums.wait_len + wide(white_at(nums.keep, nums.next, to));
     n.next = to;
     if to < count {
         n.next = to + 1;
@@ -41,13 +43,11 @@ pub(crate) fn fits_for(nums: Nums, times: usize, list: &[u32]) -> bool
     }
     let count = count_of(list);
     let mut n = nums;
-    let mut left = times;
-    while 0 < left {
+    for _ in 0..times {
         n = gather_to(n, next_dark(list, n.next), count);
         if 256 < n.wait_len {
             return false;
         }
-        left = left - 1;
     }
     true
 }
@@ -56,98 +56,57 @@ fn queue(waiting: &mut [u32; 256], at: usize, from: u32, count: u32)
     requires { (at ≤ 2199023255552) × (from + count ≤ 4294967295) }
     ensures { waiting.new ≡ queued count waiting.old at from }
 {
-    let mut i: u32 = 0;
-    while i < count {
+    for i in 0..count {
         waiting[(at + wide(i)) % 256] = from + i;
-        i = i + 1;
     }
 }
 
-// How much white space is queued up to `to`.
-pub(crate) fn white_at(keep: u32, first: u32, to: u32) -> u32
-    requires { first ≤ to }
-    ensures { result ≡ pick (ltb 0 keep) (to - first) 0 }
+pub(crate) fn gather_at(state: &mut Ahead, to: u32, count: u32)
+    requires { ((nums_of state.old.nums).next ≤ to) × Roomy (nums_of state.old.nums) × ((nums_of state.old.nums).wait_len + white_to to (nums_of state.old.nums) ≤ 256) }
+    ensures { view_of state.new ≡ gather_at to count (view_of state.old) }
 {
-    if 0 < keep {
-        return to - first;
-    }
-    0
-}
-
-pub(crate) fn gather_at(
-    nums: &mut [u32; 6],
-    held: &mut [u32; 8],
-    counts: &mut [u32; 8],
-    waiting: &mut [u32; 256],
-    to: u32,
-    count: u32,
-)
-    requires { ((nums_of nums.old).next ≤ to) × Roomy (nums_of nums.old) × ((nums_of nums.old).wait_len + white_to to (nums_of nums.old) ≤ 256) }
-    ensures { state_of (nums_of nums.new) held.new counts.new waiting.new ≡ gather_at to count (state_of (nums_of nums.old) held.old counts.old waiting.old) }
-{
-    let first = nums[0];
-    let held_len = nums[3];
-    let waits = nums[5];
-    let white = white_at(nums[1], first, to);
-    let slot = (wide(nums[2]) + wide(held_len)) % 8;
+    let first = state.nums[NEXT];
+    let held_len = state.nums[HELD_LEN];
+    let waits = state.nums[WAIT_LEN];
+    let white = white_at(state.nums[KEEP], first, to);
+    let end = (wide(state.nums[HELD_AT]) + wide(held_len)) % 8;
     // As a slice: that tells the proof that there are six.
-    queue(waiting, wide(word(nums, 4)) + wide(waits), first, white);
-    nums[5] = waits + white;
+    let from = wide(word(&state.nums, WAIT_AT));
+    queue(&mut state.waiting, from + wide(waits), first, white);
+    state.nums[WAIT_LEN] = waits + white;
     if count <= to {
-        nums[0] = to;
+        state.nums[NEXT] = to;
         return;
     }
-    held[slot] = to;
-    counts[slot] = white;
-    nums[0] = to + 1;
-    nums[3] = held_len + 1;
+    state.held[end] = to;
+    state.counts[end] = white;
+    state.nums[NEXT] = to + 1;
+    state.nums[HELD_LEN] = held_len + 1;
 }
 
 // `times` more tokens gathered.
-pub(crate) fn gathers_at(
-    nums: &mut [u32; 6],
-    held: &mut [u32; 8],
-    counts: &mut [u32; 8],
-    waiting: &mut [u32; 256],
-    times: usize,
-    list: &[u32],
-)
-    requires { Gatherable list.now times (nums_of nums.old) }
-    ensures { state_of (nums_of nums.new) held.new counts.new waiting.new ≡ gathers list.now times (state_of (nums_of nums.old) held.old counts.old waiting.old) }
+pub(crate) fn gathers_at(state: &mut Ahead, times: usize, list: &[u32])
+    requires { Gatherable list.now times (nums_of state.old.nums) }
+    ensures { view_of state.new ≡ gathers list.now times (view_of state.old) }
 {
     let count = count_of(list);
-    let mut left = times;
-    while 0 < left {
-        let to = next_dark(list, nums[0]);
-        gather_at(
-            &mut *nums,
-            &mut *held,
-            &mut *counts,
-            &mut *waiting,
-            to,
-            count,
-        );
-        left = left - 1;
+    for _ in 0..times {
+        let to = next_dark(list, state.nums[NEXT]);
+        gather_at(state, to, count);
     }
 }
 
 // One more, unless a 257th token would wait: then nothing is changed.
-pub(crate) fn one_more(
-    nums: &mut [u32; 6],
-    held: &mut [u32; 8],
-    counts: &mut [u32; 8],
-    waiting: &mut [u32; 256],
-    list: &[u32],
-) -> bool
-    requires { ((nums_of nums.old).next ≤ token_count list.now) × Roomy (nums_of nums.old) × ((nums_of nums.old).wait_len ≤ 256) }
-    ensures { (result ≡ fits_for list.now 1 (nums_of nums.old))
-        × (state_of (nums_of nums.new) held.new counts.new waiting.new ≡ pick result (gather list.now (state_of (nums_of nums.old) held.old counts.old waiting.old)) (state_of (nums_of nums.old) held.old counts.old waiting.old)) }
+pub(crate) fn one_more(state: &mut Ahead, list: &[u32]) -> bool
+    requires { ((nums_of state.old.nums).next ≤ token_count list.now) × Roomy (nums_of state.old.nums) × ((nums_of state.old.nums).wait_len ≤ 256) }
+    ensures { (result ≡ fits_for list.now 1 (nums_of state.old.nums))
+        × (view_of state.new ≡ pick result (gather list.now (view_of state.old)) (view_of state.old)) }
 {
-    let to = next_dark(list, nums[0]);
-    let white = white_at(nums[1], nums[0], to);
-    if 256 < wide(nums[5]) + wide(white) {
+    let to = next_dark(list, state.nums[NEXT]);
+    let white = white_at(state.nums[KEEP], state.nums[NEXT], to);
+    if 256 < wide(state.nums[WAIT_LEN]) + wide(white) {
         return false;
     }
-    gather_at(nums, held, counts, waiting, to, count_of(list));
+    gather_at(state, to, count_of(list));
     true
 }

@@ -1,4 +1,4 @@
-// The calls of the lookahead buffer, over the state's arrays where they lie.
+// The calls of the lookahead buffer. The state is lent, and changed where it stands.
 #![tactic(auto)]
 
 mod emit;
@@ -12,9 +12,6 @@ mod ready;
 mod rooms;
 pub mod show;
 mod sound;
-mod state;
-mod tell;
 pub mod whiles;
 
-pub use look::Looked;
-pub use state::Nums;
+pub use look::{Done, Stop};

@@ -11,20 +11,13 @@ pub(crate) fn wide(x: u32) -> usize
 pub(crate) fn count_of(list: &[u32]) -> u32
     ensures { result ≡ token_count list.now }
 {
-    let whole = list.len() / 3;
-    if whole <= 4294967295 {
-        return whole as u32;
-    }
-    4294967295
+    u32::try_from(list.len() / 3).unwrap_or(u32::MAX)
 }
 
 pub(crate) fn word(list: &[u32], at: usize) -> u32
     ensures { result ≡ get_or list.now at 0 }
 {
-    if at < list.len() {
-        return list[at];
-    }
-    0
+    list.get(at).copied().unwrap_or(0)
 }
 
 pub(crate) fn kind_at(list: &[u32], i: u32) -> u32
@@ -58,22 +51,17 @@ pub(crate) fn list_end(list: &[u32]) -> u32
 pub(crate) fn is_white(kind: u32) -> bool
     ensures { result ≡ is_white kind }
 {
-    if kind < 1 {
-        return false;
-    }
-    kind <= 4
+    matches!(kind, 1..=4)
 }
 
 pub(crate) fn next_dark(list: &[u32], from: u32) -> u32
     ensures { result ≡ dark list.now from }
 {
     let count = count_of(list);
-    let mut i = from;
-    while i < count {
+    for i in from..count {
         if !is_white(kind_at(list, i)) {
             return i;
         }
-        i = i + 1;
     }
-    i
+    from.max(count)
 }

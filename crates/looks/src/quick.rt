@@ -1,54 +1,43 @@
 // The state's test where the list and the order were tested before: small, so that each call has it in itself.
 ghost use Rattle.std.specs.Prelude.{◌≡◌};
-ghost use Rattle.looks.specs.Buffer.{nums_of};
+ghost use Rattle.ahead.specs.View.{nums_of};
 ghost use Rattle.looks.specs.Sound.{bounded_by, none_by, some_by};
 
 use crate::list::wide;
 use crate::sound::counts_sum;
+use ahead::{Ahead, HELD_AT, HELD_LEN, NEXT, WAIT_AT, WAIT_LEN};
 
-fn bounds(nums: &[u32; 6], list: &[u32]) -> bool
-    ensures { result ≡ bounded_by list.now (nums_of nums.now) }
+// The numbers lie in their bounds.
+#[tactic(auto, unfolding(crate::specs::Sound::bounded_by), using(crate::proofs::Six::reach_words))]
+pub(crate) fn bounded(state: &Ahead, list: &[u32]) -> bool
+    ensures { result ≡ bounded_by list.now (nums_of state.now.nums) }
 {
-    if 8 < nums[3] {
-        return false;
-    }
-    if 256 < nums[5] {
-        return false;
-    }
-    if 8 <= nums[2] {
-        return false;
-    }
-    if 256 <= nums[4] {
-        return false;
-    }
-    wide(nums[0]) * 3 <= list.len()
+    state.nums[HELD_LEN] <= 8
+        && state.nums[WAIT_LEN] <= 256
+        && state.nums[HELD_AT] < 8
+        && state.nums[WAIT_AT] < 256
+        && wide(state.nums[NEXT]) * 3 <= list.len()
 }
 
 // Whether it passes and one token or more is held.
-pub(crate) fn some(nums: &[u32; 6], counts: &[u32; 8], tested: u32, list: &[u32]) -> bool
-    ensures { result ≡ some_by tested list.now (nums_of nums.now) counts.now }
+#[tactic(auto, unfolding(crate::specs::Sound::some_by))]
+pub(crate) fn some(state: &Ahead, tested: u32, list: &[u32]) -> bool
+    ensures { result ≡ some_by tested list.now (nums_of state.now.nums) state.now.counts }
 {
-    if tested == 0 {
-        return false;
-    }
-    if nums[3] == 0 {
-        return false;
-    }
-    if !bounds(nums, list) {
-        return false;
-    }
-    counts_sum(counts, wide(nums[3]), wide(nums[2])) <= wide(nums[5])
+    0 < tested
+        && 0 < state.nums[HELD_LEN]
+        && bounded(state, list)
+        && counts_sum(
+            &state.counts,
+            wide(state.nums[HELD_LEN]),
+            wide(state.nums[HELD_AT]),
+        ) <= wide(state.nums[WAIT_LEN])
 }
 
 // Whether it passes and none is held.
-pub(crate) fn none(nums: &[u32; 6], tested: u32, list: &[u32]) -> bool
-    ensures { result ≡ none_by tested list.now (nums_of nums.now) }
+#[tactic(auto, unfolding(crate::specs::Sound::none_by))]
+pub(crate) fn none(state: &Ahead, tested: u32, list: &[u32]) -> bool
+    ensures { result ≡ none_by tested list.now (nums_of state.now.nums) }
 {
-    if tested == 0 {
-        return false;
-    }
-    if nums[3] != 0 {
-        return false;
-    }
-    bounds(nums, list)
+    0 < tested && state.nums[HELD_LEN] == 0 && bounded(state, list)
 }

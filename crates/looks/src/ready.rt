@@ -1,115 +1,79 @@
-// The refusals 34, 30 and 31, and a state that is filled unless one of them holds.
+// The refusals `Faulty`, `TooFar` and `WaitingFull`, and a state that is filled unless one of them holds.
 ghost use Rattle.std.specs.Prelude.{◌-◌, ◌≡◌, true};
-ghost use Rattle.looks.specs.Buffer.{nums_of, state_of};
+ghost use Rattle.ahead.specs.View.{nums_of, view_of};
 ghost use Rattle.looks.specs.Calls.{fill_refusal, filled_to};
 ghost use Rattle.looks.specs.Sound.{sound_by};
 
 use crate::fill::{fits_for, gathers_at};
 use crate::list::wide;
+use crate::look::Stop;
 use crate::quick::some;
 use crate::sound::sound;
-use crate::state::{Nums, nums_of};
-use token::refusal::{FAULTY, TOO_FAR, WAITING_FULL};
+use ahead::{Ahead, HELD_LEN};
 
 // How many tokens are lacking until n are held.
-pub(crate) fn lacks(nums: Nums, n: usize) -> usize
-    ensures { result ≡ n - nums.held_len }
+pub(crate) fn lacks(state: &Ahead, n: usize) -> usize
+    ensures { result ≡ n - (nums_of state.now.nums).held_len }
 {
-    if nums.held_len < n {
-        return n - nums.held_len;
-    }
-    0
+    n.saturating_sub(wide(state.nums[HELD_LEN]))
 }
 
-// The first of 34 for the state, 30 and 31, or 0.
-pub(crate) fn fill_refusal(
-    nums: Nums,
-    held: &[u32; 8],
-    counts: &[u32; 8],
-    waiting: &[u32; 256],
-    tested: u32,
-    n: usize,
-    list: &[u32],
-) -> u32
-    ensures { result ≡ fill_refusal tested list.now n (state_of nums held.now counts.now waiting.now) }
+// The first of `Faulty` for the state, `TooFar` and `WaitingFull`.
+pub(crate) fn fill_refusal(state: &Ahead, tested: u32, n: usize, list: &[u32]) -> Result<(), Stop>
+    ensures { result ≡ fill_refusal tested list.now n (view_of state.now) }
 {
-    if !sound(nums, held, counts, waiting, tested, list) {
-        return FAULTY;
+    if !sound(state, tested, list) {
+        return Err(Stop::Faulty);
     }
-    if n < nums.held_len {
-        return 0;
+    if n < wide(state.nums[HELD_LEN]) {
+        return Ok(());
     }
     if 7 < n {
-        return TOO_FAR;
+        return Err(Stop::TooFar);
     }
-    if !fits_for(nums, lacks(nums, n + 1), list) {
-        return WAITING_FULL;
+    if !fits_for(state.nums(), lacks(state, n + 1), list) {
+        return Err(Stop::WaitingFull);
     }
-    0
+    Ok(())
 }
 
 // For a state that passed the tests and holds n at most.
-fn fill_more(
-    nums: &mut [u32; 6],
-    held: &mut [u32; 8],
-    counts: &mut [u32; 8],
-    waiting: &mut [u32; 256],
-    tested: u32,
-    n: usize,
-    list: &[u32],
-) -> u32
-    requires { sound_by tested list.now (state_of (nums_of nums.old) held.old counts.old waiting.old) ≡ true }
-    ensures { (result ≡ fill_refusal tested list.now n (state_of (nums_of nums.old) held.old counts.old waiting.old))
-        × (state_of (nums_of nums.new) held.new counts.new waiting.new ≡ filled_to tested list.now n (state_of (nums_of nums.old) held.old counts.old waiting.old)) }
+fn fill_more(state: &mut Ahead, tested: u32, n: usize, list: &[u32]) -> Result<(), Stop>
+    requires { sound_by tested list.now (view_of state.old) ≡ true }
+    ensures { (result ≡ fill_refusal tested list.now n (view_of state.old))
+        × (view_of state.new ≡ filled_to tested list.now n (view_of state.old)) }
 {
     if 7 < n {
-        return TOO_FAR;
+        return Err(Stop::TooFar);
     }
-    let m = nums_of(nums);
-    let lacking = lacks(m, n + 1);
-    if !fits_for(m, lacking, list) {
-        return WAITING_FULL;
+    let lacking = lacks(state, n + 1);
+    if !fits_for(state.nums(), lacking, list) {
+        return Err(Stop::WaitingFull);
     }
-    gathers_at(nums, held, counts, waiting, lacking, list);
-    0
+    gathers_at(state, lacking, list);
+    Ok(())
 }
 
-pub(crate) fn filled_at(
-    nums: &mut [u32; 6],
-    held: &mut [u32; 8],
-    counts: &mut [u32; 8],
-    waiting: &mut [u32; 256],
-    tested: u32,
-    n: usize,
-    list: &[u32],
-) -> u32
-    ensures { (result ≡ fill_refusal tested list.now n (state_of (nums_of nums.old) held.old counts.old waiting.old))
-        × (state_of (nums_of nums.new) held.new counts.new waiting.new ≡ filled_to tested list.now n (state_of (nums_of nums.old) held.old counts.old waiting.old)) }
+pub(crate) fn filled_at(state: &mut Ahead, tested: u32, n: usize, list: &[u32]) -> Result<(), Stop>
+    ensures { (result ≡ fill_refusal tested list.now n (view_of state.old))
+        × (view_of state.new ≡ filled_to tested list.now n (view_of state.old)) }
 {
-    if !sound(nums_of(nums), held, counts, waiting, tested, list) {
-        return FAULTY;
+    if !sound(state, tested, list) {
+        return Err(Stop::Faulty);
     }
-    fill_more(nums, held, counts, waiting, tested, n, list)
+    fill_more(state, tested, n, list)
 }
 
 // The same, with the short test, and nothing called where so many are held already.
-pub(crate) fn ready_at(
-    nums: &mut [u32; 6],
-    held: &mut [u32; 8],
-    counts: &mut [u32; 8],
-    waiting: &mut [u32; 256],
-    tested: u32,
-    n: usize,
-    list: &[u32],
-) -> u32
-    ensures { (result ≡ fill_refusal tested list.now n (state_of (nums_of nums.old) held.old counts.old waiting.old))
-        × (state_of (nums_of nums.new) held.new counts.new waiting.new ≡ filled_to tested list.now n (state_of (nums_of nums.old) held.old counts.old waiting.old)) }
+pub(crate) fn ready_at(state: &mut Ahead, tested: u32, n: usize, list: &[u32]) -> Result<(), Stop>
+    ensures { (result ≡ fill_refusal tested list.now n (view_of state.old))
+        × (view_of state.new ≡ filled_to tested list.now n (view_of state.old)) }
 {
-    if !some(nums, counts, tested, list) {
-        return filled_at(nums, held, counts, waiting, tested, n, list);
+    if !some(state, tested, list) {
+        return filled_at(state, tested, n, list);
     }
-    if n < wide(nums[3]) {
-        return 0;
+    if n < wide(state.nums[HELD_LEN]) {
+        return Ok(());
     }
-    fill_more(nums, held, counts, waiting, tested, n, list)
+    fill_more(state, tested, n, list)
 }

@@ -1,53 +1,24 @@
-// Refusal 34: the faults of a lent list, and of a lent state over it.
+// The refusal `Faulty`: the faults of a lent list, and of a lent state over it.
 ghost use Rattle.std.specs.Prelude.{◌≤◌, ◌<◌, ◌≡◌, length};
-ghost use Rattle.looks.specs.Buffer.{state_of};
-ghost use Rattle.looks.specs.Sound.{ascends_by, bounded_by, count_sum, follows_by, sound_by, whole_by};
+ghost use Rattle.ahead.specs.View.{view_of};
+ghost use Rattle.looks.specs.Sound.{ascends_by, count_sum, follows_by, sound_by, whole_by};
 
-use crate::list::{count_of, is_white, kind_at, wide};
-use crate::state::Nums;
-use rows::{Checked, check_list};
+use crate::list::{is_white, kind_at, wide};
+use crate::quick::bounded;
+use ahead::Ahead;
+use rows::check_list;
 
 fn whole(list: &[u32]) -> bool
     ensures { result ≡ whole_by list.now }
 {
-    match check_list(list) {
-        Checked::Good => true,
-        Checked::Faulty { .. } => false,
-    }
-}
-
-fn bounded(nums: Nums, list: &[u32]) -> bool
-    ensures { result ≡ bounded_by list.now nums }
-{
-    if 8 < nums.held_len {
-        return false;
-    }
-    if 256 < nums.wait_len {
-        return false;
-    }
-    if 8 <= nums.held_at {
-        return false;
-    }
-    if 256 <= nums.wait_at {
-        return false;
-    }
-    nums.next <= count_of(list)
+    check_list(list).is_ok()
 }
 
 // One number of a ring, and what it has to be: from low on, below top, and of white space or not.
 fn follows(white: bool, list: &[u32], x: u32, low: usize, top: u32) -> bool
     ensures { result ≡ follows_by white list.now x low top }
 {
-    if wide(x) < low {
-        return false;
-    }
-    if top <= x {
-        return false;
-    }
-    if white {
-        return is_white(kind_at(list, x));
-    }
-    !is_white(kind_at(list, x))
+    low <= wide(x) && x < top && is_white(kind_at(list, x)) == white
 }
 
 fn ascends(white: bool, list: &[u32], ring: &[u32], count: usize, at: usize, top: u32) -> bool
@@ -55,14 +26,12 @@ fn ascends(white: bool, list: &[u32], ring: &[u32], count: usize, at: usize, top
     ensures { result ≡ ascends_by white list.now (length ring.now) ring.now count at 0 top }
 {
     let mut low: usize = 0;
-    let mut i: usize = 0;
-    while i < count {
+    for i in 0..count {
         let x = ring[(at + i) % ring.len()];
         if !follows(white, list, x, low, top) {
             return false;
         }
         low = wide(x) + 1;
-        i = i + 1;
     }
     true
 }
@@ -72,29 +41,22 @@ pub(crate) fn counts_sum(counts: &[u32; 8], count: usize, at: usize) -> usize
     ensures { result ≡ count_sum counts.now count at }
 {
     let mut sum: usize = 0;
-    let mut i: usize = 0;
-    while i < count {
-        sum = sum + wide(counts[(at + i) % 8]);
-        i = i + 1;
+    for i in 0..count {
+        sum += wide(counts[(at + i) % 8]);
     }
     sum
 }
 
-// Unless `tested` is 0 the caller tested the list and the order of the numbers before.
-pub(crate) fn sound(
-    nums: Nums,
-    held: &[u32; 8],
-    counts: &[u32; 8],
-    waiting: &[u32; 256],
-    tested: u32,
-    list: &[u32],
-) -> bool
-    ensures { result ≡ sound_by tested list.now (state_of nums held.now counts.now waiting.now) }
+// Unless `tested` is 0 the caller tested the list and the order of the numbers before. That the rings have eight places, as their type says, is
+// told to callers that only hand them on.
+pub(crate) fn sound(state: &Ahead, tested: u32, list: &[u32]) -> bool
+    ensures { (result ≡ sound_by tested list.now (view_of state.now)) × (length state.now.held ≡ 8) × (length state.now.counts ≡ 8) }
 {
-    if !bounded(nums, list) {
+    if !bounded(state, list) {
         return false;
     }
-    if nums.wait_len < counts_sum(counts, nums.held_len, nums.held_at) {
+    let nums = state.nums();
+    if nums.wait_len < counts_sum(&state.counts, nums.held_len, nums.held_at) {
         return false;
     }
     if 0 < tested {
@@ -103,8 +65,22 @@ pub(crate) fn sound(
     if !whole(list) {
         return false;
     }
-    if !ascends(false, list, held, nums.held_len, nums.held_at, nums.next) {
+    if !ascends(
+        false,
+        list,
+        &state.held,
+        nums.held_len,
+        nums.held_at,
+        nums.next,
+    ) {
         return false;
     }
-    ascends(true, list, waiting, nums.wait_len, nums.wait_at, nums.next)
+    ascends(
+        true,
+        list,
+        &state.waiting,
+        nums.wait_len,
+        nums.wait_at,
+        nums.next,
+    )
 }

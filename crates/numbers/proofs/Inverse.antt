@@ -1,4 +1,5 @@
 -- A kind and its number determine each other, but for the two kinds of template, which share 16. Assumes nothing.
+use Rattle.std.specs.Prelude.{None, Option, Some}
 use Prim.Native.Nat.{ℕ, zero, suc, ◌-◌, ◌≤◌, ◌<◌}
 use mathlib.Core.Path.{◌≡◌, refl, sym, ap, ◌∙◌}
 use mathlib.Core.List.{List, [], ◌∷◌}
@@ -15,39 +16,37 @@ use Rattle.numbers.specs.Kinds.{kind_of, kinds, nth_kind, number_of, plain_kind,
 use Rattle.token.specs.declared.kind.Bracket.TheVariants.{Curly, Round, Square}
 use Rattle.token.specs.declared.kind.Kind.{Kind}
 use Rattle.token.specs.declared.kind.Kind.TheVariants.{Amp, AmpAmp, AmpEq, Arrow, At, Bang, BangEq, Byte, ByteStr, Caret, CaretEq, Char, Close, Colon, ColonColon, Comma, Comment, Dash, DashEq, Div, Dollar, Dot, DotDot, DotDotEq, Eof, Eq, EqEq, Gt, GtEq, GtGt, GtGtEq, Ident, Label, Lt, LtEq, LtLt, LtLtEq, MultilineComment, Number, Open, Perc, PercEq, Pipe, PipeEq, PipePipe, Plus, PlusEq, Pound, QuestionMark, Rocket, SemiColon, Shebang, SlashEq, Star, StarEq, Str, Template, Tilde, Underscore, Whitespace}
-use Rattle.token.specs.declared.kind.Known.{Known}
-use Rattle.token.specs.declared.kind.Known.TheVariants.{Is, Unknown}
 
-kind_in : (ks : List Kind) (n : ℕ) → n < length ks → nth_kind ks n ≡ Is (get_or ks n Whitespace)
+kind_in : (ks : List Kind) (n : ℕ) → n < length ks → nth_kind ks n ≡ Some (get_or ks n Whitespace)
 unfolding nth_kind
 kind_in [] n h = absurd (omega arith)
 kind_in (k ∷ ks) zero h = refl
 kind_in (k ∷ ks) (suc n) h = kind_in ks n (omega arith)
 
-kind_past : (ks : List Kind) (n : ℕ) → length ks ≤ n → nth_kind ks n ≡ Unknown
+kind_past : (ks : List Kind) (n : ℕ) → length ks ≤ n → nth_kind ks n ≡ None
 unfolding nth_kind
 kind_past [] n h = refl
 kind_past (k ∷ ks) zero h = absurd (omega arith)
 kind_past (k ∷ ks) (suc n) h = kind_past ks n (omega arith)
 
-pub kind_zero : kind_of 0 ≡ Unknown
+pub kind_zero : kind_of 0 ≡ None
 unfolding kind_of
 kind_zero = refl
 
-pub kind_above : (n : ℕ) → 67 < n → kind_of n ≡ Unknown
+pub kind_above : (n : ℕ) → 67 < n → kind_of n ≡ None
 unfolding kind_of kinds
 kind_above zero h = refl
 kind_above (suc n) h = kind_past kinds n (omega arith)
 
-pub kind_at : (n : ℕ) → 1 ≤ n → n ≤ 67 → kind_of n ≡ Is (get_or kinds (n - 1) Whitespace)
+pub kind_at : (n : ℕ) → 1 ≤ n → n ≤ 67 → kind_of n ≡ Some (get_or kinds (n - 1) Whitespace)
 unfolding kind_of kinds
 kind_at zero h k = absurd (omega arith)
 kind_at (suc n) h k =
     let e : n ≡ suc n - 1 = omega arith in
-    kind_in kinds n (omega arith) ∙ ap (λ (i : ℕ). Is (get_or kinds i Whitespace)) e
+    kind_in kinds n (omega arith) ∙ ap (λ (i : ℕ). Some (get_or kinds i Whitespace)) e
 
 -- the table has every kind but the unclosed template at its number
-known : (k : Kind) → (k ≡ Template false) ⊎ (kind_of (number_of k) ≡ Is k)
+known : (k : Kind) → (k ≡ Template false) ⊎ (kind_of (number_of k) ≡ Some k)
 unfolding kind_of kinds nth_kind number_of
 known Whitespace = inr refl
 known Comment = inr refl
@@ -126,11 +125,11 @@ all_numbered : every_below numbered 67 ≡ true
 unfolding every_below numbered kinds number_of
 all_numbered = refl
 
-unknown : {x : Known} {k : Kind} → x ≡ Unknown → x ≡ Is k → ◌≡◌ {A = ℕ} 0 1
+unknown : {x : (Option Kind)} {k : Kind} → x ≡ None → x ≡ Some k → ◌≡◌ {A = ℕ} 0 1
 unknown e f = cc
 
 -- a kind is had back from its number, but for the unclosed template, whose number is the closed one's
-pub kind_number : (k : Kind) → (k ≡ Template false → ⊥) → kind_of (number_of k) ≡ Is k
+pub kind_number : (k : Kind) → (k ≡ Template false → ⊥) → kind_of (number_of k) ≡ Some k
 kind_number k h = ⊎_elim (λ e. absurd (h e)) (λ e. e) (known k)
 
 number_at : (n : ℕ) → n < 67 → number_of (get_or kinds n Whitespace) ≡ suc n
@@ -138,7 +137,7 @@ unfolding numbered
 number_at n h = eqb-true _ _ (below_at numbered 67 all_numbered n h)
 
 -- every number from 1 to 67 is some kind's
-pub number_kind : (n : ℕ) → 1 ≤ n → n ≤ 67 → (k : Kind) × (kind_of n ≡ Is k) × (number_of k ≡ n)
+pub number_kind : (n : ℕ) → 1 ≤ n → n ≤ 67 → (k : Kind) × (kind_of n ≡ Some k) × (number_of k ≡ n)
 number_kind n h l =
     let e : suc (n - 1) ≡ n = omega arith in
     (get_or kinds (n - 1) Whitespace, kind_at n h l, number_at (n - 1) (omega arith) ∙ e)
@@ -162,7 +161,7 @@ every_kind f t u k =
     ⊎_elim
     (λ e. ap f e ∙ u)
     (λ e.
-    let i : Is (get_or kinds (number_of k - 1) Whitespace) ≡ Is k = sym (kind_at (number_of k) r.0 r.1) ∙ e in
+    let i : Some (get_or kinds (number_of k - 1) Whitespace) ≡ Some k = sym (kind_at (number_of k) r.0 r.1) ∙ e in
     let j : get_or kinds (number_of k - 1) Whitespace ≡ k = cc in
     sym (ap f j) ∙ below_at (λ n. f (get_or kinds n Whitespace)) 67 t (number_of k - 1) (omega arith))
     (known k)

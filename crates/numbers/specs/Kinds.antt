@@ -1,11 +1,9 @@
 -- Document 01, "Token numbers": the number of each kind, and the kinds in the order of their numbers.
-use Rattle.std.specs.Prelude.{ℕ, zero, suc, List, [], ◌∷◌, Bool, true, false, eqb}
+use Rattle.std.specs.Prelude.{None, Option, Some, ℕ, zero, suc, List, [], ◌∷◌, Bool, true, false, eqb}
 use Rattle.laws.specs.Bools.{either, pick, within}
 use Rattle.token.specs.declared.kind.Bracket.TheVariants.{Curly, Round, Square}
 use Rattle.token.specs.declared.kind.Kind.{Kind}
 use Rattle.token.specs.declared.kind.Kind.TheVariants.{Amp, AmpAmp, AmpEq, Arrow, At, Bang, BangEq, Byte, ByteStr, Caret, CaretEq, Char, Close, Colon, ColonColon, Comma, Comment, Dash, DashEq, Div, Dollar, Dot, DotDot, DotDotEq, Eof, Eq, EqEq, Gt, GtEq, GtGt, GtGtEq, Ident, Label, Lt, LtEq, LtLt, LtLtEq, MultilineComment, Number, Open, Perc, PercEq, Pipe, PipeEq, PipePipe, Plus, PlusEq, Pound, QuestionMark, Rocket, SemiColon, Shebang, SlashEq, Star, StarEq, Str, Template, Tilde, Underscore, Whitespace}
-use Rattle.token.specs.declared.kind.Known.{Known}
-use Rattle.token.specs.declared.kind.Known.TheVariants.{Is, Unknown}
 
 -- the number is the kind's outside form
 unfoldable pub number_of : Kind → ℕ
@@ -95,14 +93,14 @@ kinds =
     DotDotEq ∷ LtLtEq ∷ GtGtEq ∷ Eof ∷ []
 
 -- the kind at a place of a list, counted from 0
-unfoldable pub nth_kind : List Kind → ℕ → Known
-nth_kind [] n = Unknown
-nth_kind (k ∷ ks) zero = Is k
+unfoldable pub nth_kind : List Kind → ℕ → Option Kind
+nth_kind [] n = None
+nth_kind (k ∷ ks) zero = Some k
 nth_kind (k ∷ ks) (suc n) = nth_kind ks n
 
 -- the kind of a number, counted from 1
-unfoldable pub kind_of : ℕ → Known
-kind_of zero = Unknown
+unfoldable pub kind_of : ℕ → Option Kind
+kind_of zero = None
 kind_of (suc n) = nth_kind kinds n
 
 -- the outline paints the inside of kinds 2, 3, 4, 11 to 14 and 16

@@ -1,4 +1,4 @@
-// The number that is a kind's outside form. Its laws (`Inverse`) say that it and `kinds::kind_of` are inverse wherever a number has one kind.
+// The number that is a kind's outside form. Its laws (`Inverse`) say that it and `Kinds.kind_of` are inverse wherever a number has one kind.
 #![tactic(auto)]
 
 ghost use Rattle.std.specs.Prelude.{◌≡◌};
@@ -6,6 +6,7 @@ ghost use Rattle.numbers.specs.Kinds.{number_of};
 
 use token::{Bracket, Kind};
 
+// A function, since `From` would have to stand beside `Kind`, below the definition. An arm a kind, as the definition has them.
 #[tactic(auto, unfolding(crate::specs::Kinds::number_of))]
 pub fn number_of(kind: Kind) -> u32
     ensures { result ≡ number_of kind }

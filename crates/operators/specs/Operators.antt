@@ -1,14 +1,11 @@
 -- Document 01, "Token numbers" 17 to 66: the operators by their characters, in its order, a row each.
-use Rattle.std.specs.Prelude.{ℕ, ◌+◌, List, [], ◌∷◌, eqb}
+use Rattle.std.specs.Prelude.{None, Option, Some, ℕ, ◌+◌, List, [], ◌∷◌, eqb}
 use Rattle.laws.specs.Bools.{both, pick}
 use Rattle.operators.specs.declared.Operator.{Operator}
-use Rattle.operators.specs.declared.Operator.TheVariants.{Found, Nothing}
 use Rattle.readers.specs.Scan.{Stride}
 use Rattle.token.specs.declared.kind.Bracket.TheVariants.{Curly, Round, Square}
 use Rattle.token.specs.declared.kind.Kind.{Kind}
 use Rattle.token.specs.declared.kind.Kind.TheVariants.{Amp, AmpAmp, AmpEq, Arrow, At, Bang, BangEq, Caret, CaretEq, Close, Colon, ColonColon, Comma, Dash, DashEq, Div, Dollar, Dot, DotDot, DotDotEq, Eq, EqEq, Gt, GtEq, GtGt, GtGtEq, Lt, LtEq, LtLt, LtLtEq, Open, Perc, PercEq, Pipe, PipeEq, PipePipe, Plus, PlusEq, Pound, QuestionMark, Rocket, SemiColon, SlashEq, Star, StarEq, Tilde}
-use Rattle.token.specs.declared.kind.Known.{Known}
-use Rattle.token.specs.declared.kind.Known.TheVariants.{Is, Unknown}
 
 -- 17 to 43
 unfoldable pub ones : List (ℕ × Kind)
@@ -29,40 +26,43 @@ twos =
 unfoldable pub threes : List (ℕ × ℕ × ℕ × Kind)
 threes = (46, 46, 61, DotDotEq) ∷ (60, 60, 61, LtLtEq) ∷ (62, 62, 61, GtGtEq) ∷ []
 
-unfoldable pub look_one : List (ℕ × Kind) → ℕ → Known
-look_one [] a = Unknown
-look_one (r ∷ t) a = pick (eqb a r.0) (Is r.1) (look_one t a)
+unfoldable pub look_one : List (ℕ × Kind) → ℕ → Option Kind
+look_one [] a = None
+look_one (r ∷ t) a = pick (eqb a r.0) (Some r.1) (look_one t a)
 
-unfoldable pub look_two : List (ℕ × ℕ × Kind) → ℕ → ℕ → Known
-look_two [] a b = Unknown
-look_two (r ∷ t) a b = pick (both (eqb a r.0) (eqb b r.1)) (Is r.2) (look_two t a b)
+unfoldable pub look_two : List (ℕ × ℕ × Kind) → ℕ → ℕ → Option Kind
+look_two [] a b = None
+look_two (r ∷ t) a b = pick (both (eqb a r.0) (eqb b r.1)) (Some r.2) (look_two t a b)
 
-unfoldable pub look_three : List (ℕ × ℕ × ℕ × Kind) → ℕ → ℕ → ℕ → Known
-look_three [] a b c = Unknown
-look_three (r ∷ t) a b c = pick (both (eqb a r.0) (both (eqb b r.1) (eqb c r.2))) (Is r.3) (look_three t a b c)
+unfoldable pub look_three : List (ℕ × ℕ × ℕ × Kind) → ℕ → ℕ → ℕ → Option Kind
+look_three [] a b c = None
+look_three (r ∷ t) a b c = pick (both (eqb a r.0) (both (eqb b r.1) (eqb c r.2))) (Some r.3) (look_three t a b c)
 
--- an operator's kind with the place after it
-abbrev pub found_at : Known → ℕ → Operator
-found_at (Is k) p = Found k p
-found_at Unknown p = Nothing
+-- an operator's kind, and the place after it
+abbrev pub operator : Kind → ℕ → Operator
+operator k p = record { kind = k; end = p }
 
-abbrev pub or_else : Operator → Operator → Operator
-or_else (Found k p) f = Found k p
-or_else Nothing f = f
+abbrev pub found_at : Option Kind → ℕ → Option Operator
+found_at (Some k) p = Some (operator k p)
+found_at None p = None
+
+abbrev pub or_else : Option Operator → Option Operator → Option Operator
+or_else (Some o) f = Some o
+or_else None f = f
 
 -- of the scalar v, which ends at p, and those after it
-unfoldable pub find_one : ℕ → ℕ → Operator
+unfoldable pub find_one : ℕ → ℕ → Option Operator
 find_one v p = found_at (look_one ones v) p
 
-unfoldable pub find_two : Stride → ℕ → List ℕ → ℕ → Operator
-find_two stride v [] p = Nothing
+unfoldable pub find_two : Stride → ℕ → List ℕ → ℕ → Option Operator
+find_two stride v [] p = None
 find_two stride v (w ∷ cs) p = found_at (look_two twos v w) (p + stride w)
 
-unfoldable pub find_three : Stride → ℕ → List ℕ → ℕ → Operator
-find_three stride v [] p = Nothing
-find_three stride v (w ∷ []) p = Nothing
+unfoldable pub find_three : Stride → ℕ → List ℕ → ℕ → Option Operator
+find_three stride v [] p = None
+find_three stride v (w ∷ []) p = None
 find_three stride v (w ∷ (x ∷ cs)) p = found_at (look_three threes v w x) (p + stride w + stride x)
 
 -- three characters are tried before two, and two before one
-unfoldable pub operator_of : Stride → ℕ → List ℕ → ℕ → Operator
+unfoldable pub operator_of : Stride → ℕ → List ℕ → ℕ → Option Operator
 operator_of stride v cs p = or_else (find_three stride v cs p) (or_else (find_two stride v cs p) (find_one v p))

@@ -1,4 +1,6 @@
 -- Painting piece by piece, as the code does: what is left to paint, written after what is painted, gives the buffer. Assumes nothing.
+use Rattle.std.specs.Prelude.{Err, Ok, None, Option, Some}
+use Rattle.token.specs.declared.reason.Reason.TheVariants.{NoRoom}
 use Prim.Native.Nat.{ℕ, suc, ◌+◌, ◌-◌, ◌≤◌, ◌<◌}
 use mathlib.Core.Path.{◌≡◌, refl, sym, ap, ◌∙◌}
 use mathlib.Core.List.{List, [], ◌∷◌, ◌++◌}
@@ -17,16 +19,13 @@ use Rattle.laws.specs.Bools.{both, pick}
 use Rattle.lexer.specs.Next.{next_at}
 use Rattle.marks.specs.Marks.{close_mark, open_mark}
 use Rattle.numbers.specs.Kinds.{has_inside}
+use Rattle.outline.specs.Covered.{covered, covers}
+use Rattle.outline.specs.declared.Inside.{Inside}
 use Rattle.outline.specs.Outline.{between, inside_at, inside_token, outline_answer, outline_of, outline_written, outlined, paint}
-use Rattle.outline.specs.declared.Outlined.{Outlined}
-use Rattle.outline.specs.declared.Outlined.TheVariants.{Stopped, Whole}
 use Rattle.readers.specs.Rules.{rules_of}
 use Rattle.readers.specs.declared.reading.Reading.{Reading}
 use Rattle.source_test.specs.Source.{after_test, source_test}
-use Rattle.source_test.specs.declared.Tested.{Tested}
-use Rattle.token.specs.Reads.{point_refusal}
-use Rattle.token.specs.declared.read.Read.{Read}
-use Rattle.token.specs.declared.read.Read.TheVariants.{Got, Refused}
+use Rattle.token.specs.Reads.{point_refusal, Read, Tested}
 use Rattle.token.specs.declared.read.Refusal.{Refusal}
 use Rattle.token.specs.declared.read.Token.{Token}
 
@@ -60,6 +59,10 @@ pub left_of : (i kept e : ℕ) → i < e → ltb kept (e - i) ≡ ltb (i + kept)
 left_of i kept e h =
     split (ltb (i + kept) e) (λ k. lt-ltb kept (e - i) (let z = ltb-true (i + kept) e k in omega arith) ∙ sym k) (λ k. le-ltb kept (e - i) (let z = ltb-false (i + kept) e k in omega arith) ∙ sym k)
 
+pub covers_left : (x : Option Inside) (i e : ℕ) → i < e → covered x i (e - i) ≡ covers x e i
+covers_left None i e h = refl
+covers_left (Some x) i e h = ap (both (leb x.lo i)) (left_of i x.kept e h)
+
 cut : (s : List ℕ) (a e : ℕ) → a ≤ e → e ≤ length s → drop a s ≡ slice a e s ++ drop e s
 cut s a e h k = let l = length-take-le e s k in ap (drop a) (sym (take-append-drop e s)) ∙ drop-append-le a (take e s) (drop e s) (omega arith)
 
@@ -92,11 +95,11 @@ pub shaded_first : (g : Reading) (s b : List ℕ) → length s ≤ length b → 
 shaded_first g s b h = record { buffer = refl; answers = refl; in_source = omega arith; same = refl; fits = h }
 
 module _ (g : Reading) (s b₀ b : List ℕ) (at : ℕ) (h : Shaded g s b₀ b at) where
-  abbrev Done : Outlined → List ℕ → Type 0
+  abbrev Done : Tested → List ℕ → Type 0
   Done x b' = (x ≡ outline_answer (tokens_at (rules_of g) s 0)) × (b' ≡ sets b₀ 0 (outlined (rules_of g) s))
 
   -- what is left is copied
-  finish : (x : Outlined) (b' : List ℕ) → b' ≡ sets b at (paint (between false 0 0 (length s)) (slice at (length s) s) at) → outline_answer (tokens_at (rules_of g) s at) ≡ x
+  finish : (x : Tested) (b' : List ℕ) → b' ≡ sets b at (paint (between false 0 0 (length s)) (slice at (length s) s) at) → outline_answer (tokens_at (rules_of g) s at) ≡ x
       → ((i : ℕ) → inside_at (tokens_at (rules_of g) s at) i ≡ false) → Done x b'
   unfolding outlined
   finish x b' e a n = (
@@ -106,14 +109,14 @@ module _ (g : Reading) (s b₀ b : List ℕ) (at : ℕ) (h : Shaded g s b₀ b a
   )
 
   module _ (r : Read) (er : r ≡ next_at g s at) where
-    pub shade_halt : (k : Refusal) → r ≡ Refused k → (b' : List ℕ) → b' ≡ sets b at (paint (between false 0 0 (length s)) (slice at (length s) s) at) → Done (Stopped k) b'
+    pub shade_halt : (k : Refusal) → r ≡ Err k → (b' : List ℕ) → b' ≡ sets b at (paint (between false 0 0 (length s)) (slice at (length s) s) at) → Done (Err k) b'
     unfolding outline_answer inside_at
-    shade_halt k e b' q = let t = tokens_halt g s at r er k e in finish (Stopped k) b' q (rw t) (λ i. rw t)
+    shade_halt k e b' q = let t = tokens_halt g s at r er k e in finish (Err k) b' q (rw t) (λ i. rw t)
 
-    module _ (k : Token) (e : r ≡ Got k) where
-      pub shade_fin : k.span.end ≡ at → (b' : List ℕ) → b' ≡ sets b at (paint (between false 0 0 (length s)) (slice at (length s) s) at) → Done Whole b'
+    module _ (k : Token) (e : r ≡ Ok k) where
+      pub shade_fin : k.span.end ≡ at → (b' : List ℕ) → b' ≡ sets b at (paint (between false 0 0 (length s)) (slice at (length s) s) at) → Done (Ok tt) b'
       unfolding outline_answer inside_at
-      shade_fin z b' q = let t = tokens_fin g s at r er k e z in finish Whole b' q (rw t) (λ i. rw t)
+      shade_fin z b' q = let t = tokens_fin g s at r er k e z in finish (Ok tt) b' q (rw t) (λ i. rw t)
 
       module _ (z : k.span.end ≡ at → ⊥) where
         pub shade_past : at < k.span.end
@@ -155,7 +158,7 @@ module _ (b : ℕ) (inside : Bool) (i lo kept left : ℕ) where
   shade_before e h = sym (simp (e, lt-leb lo i h))
 
 pub by_test : (g : Reading) (s : List ℕ) (room : ℕ) (t : Tested) → t ≡ source_test s
-    → (outline_of g s room ≡ after_test t (pick (ltb room (length s)) (Stopped (point_refusal 3 0)) (outline_answer (tokens_at (rules_of g) s 0))) Stopped)
+    → (outline_of g s room ≡ after_test t (pick (ltb room (length s)) (Err (point_refusal NoRoom 0)) (outline_answer (tokens_at (rules_of g) s 0))) Err)
     × (outline_written g s room ≡ after_test t (pick (ltb room (length s)) [] (outlined (rules_of g) s)) (λ r. []))
 unfolding outline_of outline_written
 by_test g s room t e = (rw (← e, outline_of), rw (← e, outline_written))

@@ -1,15 +1,14 @@
 -- Document 01, the outline: x over every byte inside a token, the source elsewhere.
-use Rattle.std.specs.Prelude.{ℕ, suc, ◌+◌, List, [], ◌∷◌, Bool, true, false, leb, ltb, length}
+use Rattle.std.specs.Prelude.{Err, Ok, ℕ, suc, ◌+◌, List, [], ◌∷◌, Bool, true, false, leb, ltb, length}
+use Rattle.token.specs.declared.reason.Reason.TheVariants.{NoRoom}
 use Rattle.families.specs.Tokens.{Tokens, fin, halt, more, tokens_at}
 use Rattle.laws.specs.Bools.{both, pick}
 use Rattle.marks.specs.Marks.{close_mark, open_mark}
 use Rattle.numbers.specs.Kinds.{has_inside}
-use Rattle.outline.specs.declared.Outlined.{Outlined}
-use Rattle.outline.specs.declared.Outlined.TheVariants.{Stopped, Whole}
 use Rattle.readers.specs.Rules.{Rules, rules_of}
 use Rattle.readers.specs.declared.reading.Reading.{Reading}
 use Rattle.source_test.specs.Source.{after_test, source_test}
-use Rattle.token.specs.Reads.{point_refusal}
+use Rattle.token.specs.Reads.{point_refusal, Tested}
 use Rattle.token.specs.declared.read.Token.{Token}
 
 -- a byte at i of a piece up to e, with an inside from lo on that ends `kept` bytes before e
@@ -35,14 +34,14 @@ unfoldable pub outlined : Rules → List ℕ → List ℕ
 outlined R s = paint (inside_at (tokens_at R s 0)) s 0
 
 -- the refusal that ended the tokens is answered too
-unfoldable pub outline_answer : Tokens → Outlined
-outline_answer fin = Whole
-outline_answer (halt r) = Stopped r
+unfoldable pub outline_answer : Tokens → Tested
+outline_answer fin = Ok tt
+outline_answer (halt r) = Err r
 outline_answer (more k ts) = outline_answer ts
 
 -- 1, 2, then 3 for a buffer shorter than the source
-unfoldable pub outline_of : Reading → List ℕ → ℕ → Outlined
-outline_of g s room = after_test (source_test s) (pick (ltb room (length s)) (Stopped (point_refusal 3 0)) (outline_answer (tokens_at (rules_of g) s 0))) Stopped
+unfoldable pub outline_of : Reading → List ℕ → ℕ → Tested
+outline_of g s room = after_test (source_test s) (pick (ltb room (length s)) (Err (point_refusal NoRoom 0)) (outline_answer (tokens_at (rules_of g) s 0))) Err
 
 -- what is written to the front of the buffer: nothing by these three
 unfoldable pub outline_written : Reading → List ℕ → ℕ → List ℕ

@@ -2,68 +2,65 @@
 // `--comments first` is asked.
 #![tactic(auto)]
 
-use buffer::fault::{fault_of, tell};
-use buffer::{Filled, Streams};
-use outline::Outlined;
-use readers::{Chosen, Reading};
-use std::io::Stderr;
-use token::Refusal;
+use buffer::fault::tell;
+use buffer::{Ending, Streams};
+use readers::Reading;
+use std::io;
+use token::{Reason, Refusal};
 
-fn say(err: Stderr, refusal: Refusal) {
-    let number = refusal.number;
-    let start = refusal.span.start;
-    let end = refusal.span.end;
-    let _ = println!(err; "refused {number} {start} {end}");
+// Why reading stopped.
+fn say(streams: Streams, refusal: Refusal) {
+    let span = refusal.span;
+    let _ = println!(streams.err;
+        "refused {} {} {}",
+        u32::from(refusal.reason),
+        span.start,
+        span.end
+    );
 }
 
-fn write(streams: Streams, outlined: &[u8]) -> bool {
-    match Print::write_all(&streams.to, outlined) {
-        Ok(()) => true,
-        Err(error) => {
-            tell(
-                streams.err,
-                b"outliner: cannot write to standard output",
-                fault_of(error),
-            );
-            false
-        }
-    }
-}
-
-// How the program ends, in the words of buffer::leave. The refusals 1, 2 and 3 write no outline.
-fn print(streams: Streams, s: &[u8], reading: Reading, out: &mut [u8]) -> u8 {
+// A source that is too long or ill-formed gets no outline, nor does one without room.
+fn print(streams: Streams, s: &[u8], reading: Reading, out: &mut [u8]) -> io::Result<Ending> {
     if out.len() < s.len() {
         let _ = println!(streams.err; "refused 1 0 0");
-        return 1;
+        return Ok(Ending::Told);
     }
-    let n = s.len();
     match outline::outline(s, reading, out) {
-        Outlined::Whole => { if write(streams, &out[..n]) { 0 } else { 2 } }
-        Outlined::Stopped { refusal } => {
-            if 3 < refusal.number {
-                if !write(streams, &out[..n]) {
-                    return 2;
-                }
+        Ok(()) => {
+            Print::write_all(&streams.to, &out[..s.len()])?;
+            Ok(Ending::Clean)
+        }
+        Err(refusal) => {
+            if !matches!(
+                refusal.reason,
+                Reason::TooLong | Reason::IllFormed | Reason::NoRoom
+            ) {
+                Print::write_all(&streams.to, &out[..s.len()])?;
             }
-            say(streams.err, refusal);
-            1
+            say(streams, refusal);
+            Ok(Ending::Told)
         }
     }
 }
 
-fn read_and_print(streams: Streams, reading: Reading) -> u8 {
+fn told(streams: Streams, what: &[u8], error: io::Error) -> Ending {
+    tell(streams.err, what, error);
+    Ending::Failed
+}
+
+fn read_and_print(streams: Streams, reading: Reading) -> Ending {
     // One byte more than a source may have tells an over-long input.
     let mut source = [0u8; 65537];
     let mut from = streams.from;
     let count = match buffer::fill(&mut from, &mut source) {
-        Filled::Bytes { count } => count,
-        Filled::Failed { fault } => {
-            tell(streams.err, b"outliner: cannot read standard input", fault);
-            return 2;
-        }
+        Ok(count) => count,
+        Err(error) => return told(streams, b"outliner: cannot read standard input", error),
     };
     let mut out = [0u8; 65536];
-    print(streams, &source[..count], reading, &mut out)
+    match print(streams, &source[..count], reading, &mut out) {
+        Ok(ending) => ending,
+        Err(error) => told(streams, b"outliner: cannot write to standard output", error),
+    }
 }
 
 fn main(rt: HostRuntime) {
@@ -72,11 +69,11 @@ fn main(rt: HostRuntime) {
         to: rt.stdout(),
         err: rt.stderr(),
     };
-    let Chosen::OneReading { reading } = arguments::asked(&rt) else {
+    let Some(reading) = arguments::asked(&rt) else {
         arguments::say_usage(streams.err, b"outliner");
-        buffer::leave(&rt, 2);
+        buffer::leave(&rt, Ending::Failed);
         return;
     };
-    let status = read_and_print(streams, reading);
-    buffer::leave(&rt, status);
+    let ending = read_and_print(streams, reading);
+    buffer::leave(&rt, ending);
 }

@@ -1,12 +1,12 @@
 -- What is counted before a place grows with it; where no LF stands between two places they have one line. Assumes nothing.
-use Prim.Native.Nat.{ℕ, zero, suc, ◌+◌, ◌-◌, ◌≤◌, ◌<◌}
+use Prim.Native.Nat.{ℕ, zero, suc, ◌+◌, ◌-◌, ◌≤◌}
 use mathlib.Core.Path.{◌≡◌, refl, sym, ap, ◌∙◌}
-use mathlib.Core.List.{List}
-use mathlib.Core.Bool.{Bool, true, false}
+use mathlib.Core.List.{List, ◌∷◌}
+use mathlib.Core.Bool.{Bool, cond, true, false}
 use native.Mathlib.Omega.{arith}
 use native.Mathlib.Numerals.{add-one}
-use lib.ListN.{get_or}
-use borrow.Author.Tests.{eq-eqb, ne_eqb}
+use lib.ListN.{get_or, length}
+use Rattle.std.specs.List.{filter, range_with_len}
 use Rattle.laws.proofs.Cases.{never, split, split_le}
 use Rattle.laws.specs.Bools.{pick}
 use Rattle.places.specs.Lines.{Stands, begins, column_of, count_in, count_to, is_feed, line_number, start_of}
@@ -15,13 +15,6 @@ use Rattle.places.specs.declared.line.Place.{Place}
 pub count_one : (b : Bool) → pick b 1 0 ≤ 1
 count_one true = omega arith
 count_one false = omega arith
-
--- at a byte that is LF, and at one that is none
-pub feed_here : (s : List ℕ) (at : ℕ) → get_or s at 0 ≡ 10 → ◌≡◌ {A = ℕ} 1 (pick (is_feed (get_or s at 0)) 1 0)
-feed_here s at h = rw (eq-eqb (get_or s at 0) 10 h)
-
-pub feed_none : (s : List ℕ) (at : ℕ) → (get_or s at 0 ≡ 10 → ⊥) → ◌≡◌ {A = ℕ} 0 (pick (is_feed (get_or s at 0)) 1 0)
-feed_none s at h = rw (ne_eqb (get_or s at 0) 10 h)
 
 pub count_step : (f : ℕ → Bool) (s : List ℕ) (n : ℕ) → count_to f s (n + 1) ≡ pick (f (get_or s n 0)) 1 0 + count_to f s n
 unfolding count_to
@@ -62,23 +55,6 @@ start_same s m (suc n) h e =
     ∙ start_same s m n l (omega (arith, ap (λ (b : Bool). pick b 1 0 + count_to is_feed s n) t))))
     (λ l. let q : m ≡ suc n = omega arith in ap (start_of s) (sym q))
 
--- the place before is an LF, or is none
-module _ (s : List ℕ) (i : ℕ) (some : 0 < i) where
-  back_one : i ≡ suc (i - 1)
-  back_one = omega arith
-
-  pub start_here : get_or s (i - 1) 0 ≡ 10 → start_of s i ≡ i
-  unfolding start_of
-  start_here e = ap (start_of s) back_one ∙ (simp (eq-eqb _ _ e) (sym back_one))
-
-  pub start_back : (get_or s (i - 1) 0 ≡ 10 → ⊥) → start_of s (i - 1) ≡ start_of s i
-  unfolding start_of
-  start_back e = sym (ap (start_of s) back_one ∙ simp (ne_eqb _ _ e))
-
-pub start_none : (s : List ℕ) (i : ℕ) → i ≤ 0 → start_of s i ≡ 0
-unfolding start_of
-start_none s i h = let e : i ≡ 0 = omega arith in ap (start_of s) e
-
 -- what is counted from one place to before another
 module _ (f : ℕ → Bool) (s : List ℕ) (first to : ℕ) (ordered : first ≤ to) where
   pub in_between : count_to f s first + count_in f s first to ≡ count_to f s to
@@ -86,6 +62,22 @@ module _ (f : ℕ → Bool) (s : List ℕ) (first to : ℕ) (ordered : first ≤
 
   pub in_most : count_in f s first to ≤ to
   in_most = omega (arith, in_between, count_most f s to)
+
+kept : (b : Bool) (i : ℕ) (l : List ℕ) → length (cond b (i ∷ l) l) ≡ pick b 1 0 + length l
+kept true i l = omega arith
+kept false i l = omega arith
+
+-- of so many places from one on, those whose bytes meet a test
+counted : (f : ℕ → Bool) (s : List ℕ) (first n : ℕ) → count_to f s first + length (filter (λ i. f (get_or s i 0)) (range_with_len first n)) ≡ count_to f s (first + n)
+counted f s first zero = let e : first ≡ first + 0 = omega arith in omega (arith, ap (count_to f s) e)
+counted f s first (suc n) =
+    let e : first + 1 + n ≡ first + suc n = omega arith in
+    let k : length (filter (λ i. f (get_or s i 0)) (range_with_len first (suc n))) ≡ pick (f (get_or s first 0)) 1 0 + length (filter (λ i. f (get_or s i 0)) (range_with_len (first + 1) n)) =
+    kept (f (get_or s first 0)) first (filter (λ i. f (get_or s i 0)) (range_with_len (first + 1) n)) in
+    omega (arith, k, counted f s (first + 1) n, count_step f s first, ap (count_to f s) e)
+
+pub filtered : (f : ℕ → Bool) (s : List ℕ) (first to : ℕ) → length (filter (λ i. f (get_or s i 0)) (range_with_len first (to - first))) ≡ count_in f s first to
+filtered f s first to = omega (arith, counted f s first (to - first))
 
 pub column_most : (s : List ℕ) (at : ℕ) → column_of s at ≤ 1 + at
 column_most s at = omega (arith, in_most begins s (start_of s at) at (start_most s at))

@@ -1,13 +1,12 @@
 // Lines and columns, counted from a place on: a source with many findings is walked once.
-ghost use Rattle.std.specs.Prelude.{◌+◌, ◌-◌, ◌<◌, ◌≡◌, get_or, length};
-ghost use Rattle.laws.specs.Bools.{pick};
+ghost use Rattle.std.specs.Prelude.{◌+◌, ◌-◌, ◌<◌, ◌≡◌, length};
 ghost use Rattle.places.specs.Lines.{Stands, begins, column_of, count_in, is_feed, part_of, start_of};
 ghost use Rattle.text.specs.Utf8.{from};
 
 use text::Scalar;
 
 // Line and column count from 1.
-#[derive(Clone, Copy, Drop)]
+#[derive(Clone, Copy)]
 pub struct Place {
     pub at: usize,
     pub line: usize,
@@ -25,94 +24,38 @@ pub fn origin() -> Place
     }
 }
 
-// No number of a source is as large: past that the first is left as it is.
-fn sum(a: usize, b: usize) -> usize
-    ensures { a < 0x80000000 → b < 0x80000000 → result ≡ a + b }
-{
-    if a < 0x8000_0000 {
-        if b < 0x8000_0000 {
-            return a + b;
-        }
-    }
-    a
-}
-
-fn less(a: usize, b: usize) -> usize
-    ensures { result ≡ a - b }
-{
-    if b < a { a - b } else { 0 }
-}
-
 // From one place to before another; nothing where that is no part of the slice.
 pub fn part(s: &[u8], from: usize, to: usize) -> &[u8]
     ensures { result.now ≡ part_of s.now from to }
 {
-    if s.len() < to {
-        return &s[..0];
-    }
-    if to < from {
-        return &s[..0];
-    }
-    &s[from..to]
-}
-
-#[tactic(auto, using(crate::proofs::Counts::feed_here, crate::proofs::Counts::feed_none))]
-fn feed_at(s: &[u8], at: usize) -> usize
-    ensures { result ≡ pick (is_feed (get_or s.now at 0)) 1 0 }
-{
-    if text::byte_at(s, at) == b'\n' {
-        return 1;
-    }
-    0
-}
-
-fn scalar_at(s: &[u8], at: usize) -> usize
-    ensures { result ≡ pick (begins (get_or s.now at 0)) 1 0 }
-{
-    if text::is_tail(text::byte_at(s, at)) {
-        return 0;
-    }
-    1
+    s.get(from..to).unwrap_or(&[])
 }
 
 // How many LF stand from one place to before another.
 pub fn feeds(s: &[u8], from: usize, to: usize) -> usize
     ensures { result ≡ count_in is_feed s.now from to }
 {
-    let mut count: usize = 0;
-    let mut i = from;
-    while i < to {
-        count = count + feed_at(s, i);
-        i = i + 1;
-    }
-    count
+    (from..to).filter(|i| text::byte_at(s, *i) == b'\n').count()
 }
 
 // How many scalars begin there.
 pub fn scalars(s: &[u8], from: usize, to: usize) -> usize
     ensures { result ≡ count_in begins s.now from to }
 {
-    let mut count: usize = 0;
-    let mut i = from;
-    while i < to {
-        count = count + scalar_at(s, i);
-        i = i + 1;
-    }
-    count
+    (from..to)
+        .filter(|i| !text::is_tail(text::byte_at(s, *i)))
+        .count()
 }
 
 // The place after the last LF before a place.
 pub fn line_start(s: &[u8], at: usize) -> usize
     ensures { result ≡ start_of s.now at }
 {
-    let mut i = at;
-    while 0 < i {
-        if text::byte_at(s, i - 1) == b'\n' {
-            return i;
-        }
-        i = i - 1;
+    let feed = (0..at).rev().find(|i| text::byte_at(s, *i) == b'\n');
+    match feed {
+        Some(i) => i + 1,
+        None => 0,
     }
-    0
 }
 
 // The place after the scalar at a place, or after the byte where no scalar stands.
@@ -122,7 +65,7 @@ pub fn after(s: &[u8], at: usize) -> usize
     if s.len() <= at {
         return at;
     }
-    let Scalar::One { value: _, next } = text::scalar_at(s, at) else {
+    let Some(Scalar { next, .. }) = text::scalar_at(s, at) else {
         return at + 1;
     };
     if at < next {
@@ -134,7 +77,7 @@ pub fn after(s: &[u8], at: usize) -> usize
 fn column(s: &[u8], at: usize) -> usize
     ensures { at < 0x40000000 → result ≡ column_of s.now at }
 {
-    sum(1, scalars(s, line_start(s, at), at))
+    scalars(s, line_start(s, at), at).saturating_add(1)
 }
 
 // Another place of the source, counted from one that stands with its line and column.
@@ -144,7 +87,7 @@ pub fn moved(s: &[u8], p: Place, to: usize) -> Place
     if to < p.at {
         return Place {
             at: to,
-            line: less(p.line, feeds(s, to, p.at)),
+            line: p.line.saturating_sub(feeds(s, to, p.at)),
             column: column(s, to),
         };
     }
@@ -153,12 +96,12 @@ pub fn moved(s: &[u8], p: Place, to: usize) -> Place
         return Place {
             at: to,
             line: p.line,
-            column: sum(p.column, scalars(s, p.at, to)),
+            column: p.column.saturating_add(scalars(s, p.at, to)),
         };
     }
     Place {
         at: to,
-        line: sum(p.line, count),
+        line: p.line.saturating_add(count),
         column: column(s, to),
     }
 }

@@ -1,6 +1,4 @@
 // As much of a line as is shown: all of it, or a part around a mark.
-ghost use Rattle.std.specs.Prelude.{◌≤◌};
-
 use crate::line::{after, scalars};
 
 const WHOLE: usize = 100;
@@ -10,7 +8,7 @@ const CUT: usize = 96;
 const HALF: usize = 48;
 
 // What is shown of a line, from one place to before another, and whether something is cut on either side.
-#[derive(Clone, Copy, Drop)]
+#[derive(Clone, Copy)]
 pub struct Window {
     pub from: usize,
     pub to: usize,
@@ -19,44 +17,30 @@ pub struct Window {
 }
 
 // Where some scalars end, and how many they are.
-#[derive(Clone, Copy, Drop)]
+#[derive(Clone, Copy)]
 pub struct Reach {
     pub to: usize,
     pub count: usize,
 }
 
-fn least(a: usize, b: usize) -> usize
-    ensures { result ≤ b }
-{
-    if a < b { a } else { b }
-}
-
 // A line ends before LF, before CR LF and with the source.
 fn ends(s: &[u8], at: usize) -> bool {
-    if s.len() <= at {
-        return true;
-    }
-    if s[at] == b'\r' {
-        return text::byte_at(s, at + 1) == b'\n';
-    }
-    s[at] == b'\n'
+    matches!(
+        s.get(at..),
+        None | Some([] | [b'\n', ..] | [b'\r', b'\n', ..])
+    )
 }
 
 // So many scalars before a place, as far as the line goes.
 pub fn back(s: &[u8], at: usize, most: usize) -> usize {
-    let mut i = at;
     let mut left = most;
-    while 0 < i {
-        let byte = text::byte_at(s, i - 1);
-        if byte == b'\n' {
-            return i;
+    for i in (0..at).rev() {
+        let byte = text::byte_at(s, i);
+        if byte == b'\n' || left == 0 {
+            return i + 1;
         }
-        if left == 0 {
-            return i;
-        }
-        i = i - 1;
         if !text::is_tail(byte) {
-            left = left - 1;
+            left -= 1;
         }
     }
     0
@@ -65,15 +49,13 @@ pub fn back(s: &[u8], at: usize, most: usize) -> usize {
 // So many scalars from a place on, as far as the line goes. A byte that is no part of a scalar counts as one.
 pub fn ahead(s: &[u8], at: usize, most: usize) -> Reach {
     let mut to = at;
-    let mut count: usize = 0;
-    while count < most {
+    for count in 0..most {
         if ends(s, to) {
             return Reach { to, count };
         }
         to = after(s, to);
-        count = count + 1;
     }
-    Reach { to, count }
+    Reach { to, count: most }
 }
 
 // The line that a place stands on, cut to the scalars around it where it is long.
@@ -81,18 +63,16 @@ pub fn around(s: &[u8], at: usize) -> Window {
     let from = back(s, at, WHOLE + 1);
     let before = scalars(s, from, at);
     let rest = ahead(s, at, WHOLE + 1);
-    if before <= WHOLE {
-        if rest.count <= WHOLE - before {
-            return Window {
-                from,
-                to: rest.to,
-                left: false,
-                right: false,
-            };
-        }
+    if before <= WHOLE && rest.count <= WHOLE - before {
+        return Window {
+            from,
+            to: rest.to,
+            left: false,
+            right: false,
+        };
     }
-    let kept = least(before, CUT - least(rest.count, HALF));
-    let shown = ahead(s, at, CUT - least(kept, CUT));
+    let kept = before.min(CUT - rest.count.min(HALF));
+    let shown = ahead(s, at, CUT - kept.min(CUT));
     Window {
         from: back(s, at, kept),
         to: shown.to,

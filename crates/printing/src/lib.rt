@@ -2,87 +2,69 @@
 // Every function here is safe and ends, and each line is made by `lines`, which promises its bytes. What reaches standard output no contract can say: runs show it.
 #![tactic(auto)]
 
-use buffer::{Output, put_bytes};
+use buffer::Writer;
+use lines::Line;
 use readers::Reading;
-use source_test::Tested;
-use token::{Read, Refusal};
+use token::{Refusal, Token};
 
-// How much waits to be written now, and whether reading was refused.
-#[derive(Drop)]
-pub struct Printed {
-    pub waiting: usize,
-    pub refused: bool,
+fn put_line<const ROOM: usize>(out: &mut Writer<ROOM>, line: &Line) {
+    out.put_bytes(line.as_str().as_bytes());
 }
 
-fn put_three(
-    to: &mut Output,
-    out: &mut [u8],
-    waiting: usize,
-    number: u32,
-    start: usize,
-    end: usize,
-) -> usize {
-    let mut line = [0u8; 64];
-    let n = lines::three(&mut line, number, start, end);
-    put_bytes(to, out, waiting, &line[..n])
-}
-
-fn put_refused(to: &mut Output, out: &mut [u8], waiting: usize, refusal: Refusal) -> Printed {
-    let span = refusal.span;
-    let mut line = [0u8; 64];
-    let n = lines::refused_line(&mut line, refusal.number, span.start, span.end);
-    Printed {
-        waiting: put_bytes(to, out, waiting, &line[..n]),
-        refused: true,
-    }
-}
-
-fn put_end(to: &mut Output, out: &mut [u8], waiting: usize, count: usize) -> Printed {
-    let mut line = [0u8; 64];
-    let n = lines::end_line(&mut line, count);
-    Printed {
-        waiting: put_bytes(to, out, waiting, &line[..n]),
-        refused: false,
-    }
-}
-
-// Each token goes past its start, so the bytes left fall.
-fn list_tokens(
-    to: &mut Output,
+// How many they are. Each token goes past its start, so the bytes left fall.
+fn put_tokens<const ROOM: usize>(
+    out: &mut Writer<ROOM>,
     s: &[u8],
     reading: Reading,
-    out: &mut [u8],
-    waiting: usize,
-) -> Printed {
-    let mut waiting = waiting;
+) -> Result<usize, Refusal> {
     let mut at: usize = 0;
     let mut count: usize = 0;
     loop {
         let answer = lexer::next(s, reading, at);
-        let Read::Got { token } = answer else {
-            return put_refused(to, out, waiting, token::refusal_in(answer));
+        let Ok(token) = answer else {
+            return Err(answer.unwrap_err());
         };
-        let kind = token.kind;
-        let span = token.span;
+        let Token { kind, span } = token;
         let end = span.end;
         if end == at {
-            return put_end(to, out, waiting, count);
+            return Ok(count);
         }
-        waiting = put_three(to, out, waiting, numbers::number_of(kind), span.start, end);
-        count = count + 1;
+        put_line(
+            out,
+            &lines::three(numbers::number_of(kind), span.start, end),
+        );
+        count += 1;
         at = end;
     }
 }
 
-pub fn list(
-    to: &mut Output,
+fn put_source<const ROOM: usize>(
+    out: &mut Writer<ROOM>,
     s: &[u8],
     reading: Reading,
-    out: &mut [u8],
-    waiting: usize,
-) -> Printed {
-    match source_test::test_source(s) {
-        Tested::Sound => list_tokens(to, s, reading, out, waiting),
-        Tested::Unsound { refusal } => put_refused(to, out, waiting, refusal),
+) -> Result<usize, Refusal> {
+    source_test::test_source(s)?;
+    put_tokens(out, s, reading)
+}
+
+// The refusal is put too.
+pub fn list<const ROOM: usize>(
+    out: &mut Writer<ROOM>,
+    s: &[u8],
+    reading: Reading,
+) -> Result<(), Refusal> {
+    match put_source(out, s, reading) {
+        Ok(count) => {
+            put_line(out, &lines::end_line(count));
+            Ok(())
+        }
+        Err(refusal) => {
+            let span = refusal.span;
+            put_line(
+                out,
+                &lines::refused_line(u32::from(refusal.reason), span.start, span.end),
+            );
+            Err(refusal)
+        }
     }
 }

@@ -2,7 +2,7 @@
 use Rattle.std.specs.Prelude.{ℕ, List, length}
 use Rattle.std.proofs.lemmas.List.Edits.{sets}
 use Rattle.answers.specs.Readings.{reading_of, tells_by, writes_by}
-use Rattle.answers.specs.Told.{of_listed, of_outlined, of_read, of_tested}
+use Rattle.answers.specs.Told.{of_listed, of_read, of_tested}
 use Rattle.answers.specs.declared.Told.{Told}
 use Rattle.findings.specs.Findings.{findings_of, stored_findings}
 use Rattle.lexer.specs.Next.{next_at, read_at}
@@ -31,7 +31,7 @@ abbrev pub list_leaves : ℕ → List ℕ → List ℕ → List ℕ
 list_leaves n s store = sets store 0 (writes_by (reading_of n) (λ g. stored_of g s (length store)))
 
 abbrev pub outline_tells : ℕ → List ℕ → List ℕ → Told
-outline_tells n s out = tells_by (reading_of n) (λ g. of_outlined (outline_of g s (length out)))
+outline_tells n s out = tells_by (reading_of n) (λ g. of_tested (outline_of g s (length out)))
 
 abbrev pub outline_leaves : ℕ → List ℕ → List ℕ → List ℕ
 outline_leaves n s out = sets out 0 (writes_by (reading_of n) (λ g. outline_written g s (length out)))

@@ -1,17 +1,23 @@
-// The calls for C and Rust that read a source (include/puffsatchel.h): the result is a refusal's number, 0 where there is none, and the rest of the answer goes to
-// five lent words. Each equals the definition of the call below it, on every input; none keeps or allocates memory.
+// The calls for C and Rust that read a source (include/puffsatchel.h): the result is a refusal's number, 0 where there is none, and the rest of the
+// answer goes to five lent words. Each equals the definition of the call below it, on every input; none keeps or allocates memory. Those with a reading
+// begin alike: each is an exported name with parameters of its own, and what they share is one `let .. else`.
 #![tactic(auto)]
 
 ghost use Rattle.std.specs.Prelude.{◌≡◌};
+ghost use Rattle.answers.specs.Told.{told_as};
 ghost use Rattle.puffsatchel.specs.Calls.{findings_leaves, findings_tells, list_leaves, list_tells, next_tells, outline_leaves, outline_tells, read_tells, test_tells, version};
 
-use answers::tell;
-use readers::Chosen;
-
-// A number that names no reading.
-const NO_SUCH_READING: u32 = 6;
+use answers::Told;
+use token::Reason;
 
 const VERSION: u32 = 6;
+
+// The number names no reading: nothing is read.
+fn no_such_reading(answer: &mut [usize; 5]) -> u32
+    ensures { (result ≡ 6) × (answer.new ≡ (told_as 6 0 0 0 0 0).words) }
+{
+    Told::point(Reason::NoSuchReading, 0).tell(answer)
+}
 
 #[unsafe(no_mangle)]
 pub extern "C" fn puffsatchel_version() -> u32
@@ -24,7 +30,7 @@ pub extern "C" fn puffsatchel_version() -> u32
 pub extern "C" fn puffsatchel_test(source: &[u8], answer: &mut [usize; 5]) -> u32
     ensures { (result ≡ (test_tells source.now).number) × (answer.new ≡ (test_tells source.now).words) }
 {
-    tell(answers::of_tested(source_test::test_source(source)), answer)
+    Told::from(source_test::test_source(source)).tell(answer)
 }
 
 #[unsafe(no_mangle)]
@@ -36,10 +42,10 @@ pub extern "C" fn puffsatchel_read(
 ) -> u32
     ensures { (result ≡ (read_tells reading source.now at).number) × (answer.new ≡ (read_tells reading source.now at).words) }
 {
-    let Chosen::OneReading { reading: known } = answers::reading_of(reading) else {
-        return tell(answers::point(NO_SUCH_READING, 0), answer);
+    let Some(known) = answers::reading_of(reading) else {
+        return no_such_reading(answer);
     };
-    tell(answers::of_read(lexer::read(source, known, at)), answer)
+    Told::from(lexer::read(source, known, at)).tell(answer)
 }
 
 // For a source that puffsatchel_test has accepted; total on every other.
@@ -52,10 +58,10 @@ pub extern "C" fn puffsatchel_next(
 ) -> u32
     ensures { (result ≡ (next_tells reading source.now at).number) × (answer.new ≡ (next_tells reading source.now at).words) }
 {
-    let Chosen::OneReading { reading: known } = answers::reading_of(reading) else {
-        return tell(answers::point(NO_SUCH_READING, 0), answer);
+    let Some(known) = answers::reading_of(reading) else {
+        return no_such_reading(answer);
     };
-    tell(answers::of_read(lexer::next(source, known, at)), answer)
+    Told::from(lexer::next(source, known, at)).tell(answer)
 }
 
 #[unsafe(no_mangle)]
@@ -69,11 +75,10 @@ pub extern "C" fn puffsatchel_list(
         × (store.new ≡ list_leaves reading source.now store.old)
         × (answer.new ≡ (list_tells reading source.now store.old).words) }
 {
-    let Chosen::OneReading { reading: known } = answers::reading_of(reading) else {
-        return tell(answers::point(NO_SUCH_READING, 0), answer);
+    let Some(known) = answers::reading_of(reading) else {
+        return no_such_reading(answer);
     };
-    let listed = listing::list(source, known, store);
-    tell(answers::of_listed(listed), answer)
+    Told::from(listing::list(source, known, store)).tell(answer)
 }
 
 #[unsafe(no_mangle)]
@@ -87,11 +92,10 @@ pub extern "C" fn puffsatchel_outline(
         × (out.new ≡ outline_leaves reading source.now out.old)
         × (answer.new ≡ (outline_tells reading source.now out.old).words) }
 {
-    let Chosen::OneReading { reading: known } = answers::reading_of(reading) else {
-        return tell(answers::point(NO_SUCH_READING, 0), answer);
+    let Some(known) = answers::reading_of(reading) else {
+        return no_such_reading(answer);
     };
-    let outlined = outline::outline(source, known, out);
-    tell(answers::of_outlined(outlined), answer)
+    Told::from(outline::outline(source, known, out)).tell(answer)
 }
 
 #[unsafe(no_mangle)]
@@ -105,9 +109,8 @@ pub extern "C" fn puffsatchel_findings(
         × (store.new ≡ findings_leaves reading source.now store.old)
         × (answer.new ≡ (findings_tells reading source.now store.old).words) }
 {
-    let Chosen::OneReading { reading: known } = answers::reading_of(reading) else {
-        return tell(answers::point(NO_SUCH_READING, 0), answer);
+    let Some(known) = answers::reading_of(reading) else {
+        return no_such_reading(answer);
     };
-    let found = findings::findings(source, known, store);
-    tell(answers::of_listed(found), answer)
+    Told::from(findings::findings(source, known, store)).tell(answer)
 }

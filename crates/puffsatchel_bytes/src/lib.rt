@@ -4,10 +4,8 @@
 ghost use Rattle.std.specs.Prelude.{◌≡◌};
 ghost use Rattle.puffsatchel_bytes.specs.Calls.{load_leaves, load_tells, store_leaves, store_tells, unescape_leaves, unescape_tells};
 
-use answers::{Named, tell};
-
-// A number that names none of the five forms. No document uses it.
-const NO_SUCH_FORM: u32 = 5;
+use answers::Told;
+use token::Reason;
 
 #[unsafe(no_mangle)]
 pub extern "C" fn puffsatchel_unescape(
@@ -20,11 +18,10 @@ pub extern "C" fn puffsatchel_unescape(
         × (out.new ≡ unescape_leaves form body.now out.old)
         × (answer.new ≡ (unescape_tells form body.now out.old).words) }
 {
-    let Named::OneForm { form: known } = answers::form_of(form) else {
-        return tell(answers::point(NO_SUCH_FORM, 0), answer);
+    let Some(known) = answers::form_of(form) else {
+        return Told::point(Reason::NoSuchForm, 0).tell(answer);
     };
-    let unescaped = unescape::unescape(body, known, out);
-    tell(answers::of_unescaped(unescaped), answer)
+    Told::from(unescape::unescape(body, known, out)).tell(answer)
 }
 
 // A token list, three words a token, as stored records.
@@ -34,8 +31,7 @@ pub extern "C" fn puffsatchel_store(list: &[u32], out: &mut [u8], answer: &mut [
         × (out.new ≡ store_leaves list.now out.old)
         × (answer.new ≡ (store_tells list.now out.old).words) }
 {
-    let written = storage::write(list, out);
-    tell(answers::of_stored(written), answer)
+    Told::from(storage::write(list, out)).tell(answer)
 }
 
 // Stored records as a token list.
@@ -45,6 +41,5 @@ pub extern "C" fn puffsatchel_load(bytes: &[u8], out: &mut [u32], answer: &mut [
         × (out.new ≡ load_leaves bytes.now out.old)
         × (answer.new ≡ (load_tells bytes.now out.old).words) }
 {
-    let loaded = storage::read(bytes, out);
-    tell(answers::of_stored(loaded), answer)
+    Told::from(storage::read(bytes, out)).tell(answer)
 }

@@ -1,4 +1,5 @@
 -- The rows of the code's table. Assumes nothing.
+use Rattle.std.specs.Prelude.{None, Some}
 use Prim.Native.Nat.{ℕ, ◌+◌, ◌*◌}
 use mathlib.Core.Path.{◌≡◌, refl}
 use mathlib.Core.Bool.{Bool, true, false}
@@ -6,21 +7,19 @@ use lib.Dec.{eqb}
 use borrow.Author.Tests.{ne_eqb}
 use Rattle.laws.specs.Bools.{pick}
 use Rattle.numbers.specs.Kinds.{number_of}
-use Rattle.operators.specs.Operators.{found_at, look_one, look_three, look_two, ones, or_else, threes, twos}
-use Rattle.operators.specs.declared.Operator.TheVariants.{Found}
+use Rattle.operators.specs.Operators.{found_at, look_one, look_three, look_two, ones, operator, or_else, threes, twos}
 use Rattle.quick.specs.Operators.{operator_by, packed, quick_of}
 use Rattle.token.specs.declared.kind.Kind.{Kind}
 use Rattle.token.specs.declared.kind.Kind.TheVariants.{Gt, GtEq, Lt, LtEq}
-use Rattle.token.specs.declared.kind.Known.TheVariants.{Is, Unknown}
 
 -- one byte more, or not
-pub longer : (t : Bool) (k j : Kind) (m n : ℕ) → pick t (number_of k * 4 + m) (number_of j * 4 + n) ≡ packed (or_else (found_at (pick t (Is k) Unknown) m) (Found j n))
+pub longer : (t : Bool) (k j : Kind) (m n : ℕ) → pick t (number_of k * 4 + m) (number_of j * 4 + n) ≡ packed (or_else (found_at (pick t (Some k) None) m) (Some (operator j n)))
 longer true k j m n = refl
 longer false k j m n = refl
 
 -- one of two bytes more, or none
 pub either_longer : (t u : Bool) (k l j : Kind)
-    → pick t (number_of k * 4 + 2) (pick u (number_of l * 4 + 2) (number_of j * 4 + 1)) ≡ packed (or_else (found_at (pick t (Is k) (pick u (Is l) Unknown)) 2) (Found j 1))
+    → pick t (number_of k * 4 + 2) (pick u (number_of l * 4 + 2) (number_of j * 4 + 1)) ≡ packed (or_else (found_at (pick t (Some k) (pick u (Some l) None)) 2) (Some (operator j 1)))
 either_longer true u k l j = refl
 either_longer false true k l j = refl
 either_longer false false k l j = refl

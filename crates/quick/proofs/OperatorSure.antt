@@ -1,4 +1,5 @@
 -- Where a number is told, the reader reads that operator. Assumes nothing.
+use Rattle.std.specs.Prelude.{None, Option, Some}
 use Prim.Native.Nat.{ℕ, ◌+◌, ◌*◌, ◌/◌, ◌%◌, ◌<◌}
 use mathlib.Core.Path.{◌≡◌, refl, sym, ap, ◌∙◌}
 use mathlib.Core.List.{List, [], ◌∷◌}
@@ -16,9 +17,9 @@ use Rattle.laws.specs.Tables.{in_ranges}
 use Rattle.lexer.proofs.Sources.{later_token}
 use Rattle.lexer.specs.Next.{close_span, next_at, past_start_at}
 use Rattle.numbers.specs.Kinds.{number_of}
-use Rattle.operators.specs.Operators.{find_one, find_three, find_two, found_at, look_one, look_three, look_two, ones, operator_of, or_else, threes, twos}
+use Rattle.operators.proofs.Ends.{same_end, same_kind}
+use Rattle.operators.specs.Operators.{find_one, find_three, find_two, found_at, look_one, look_three, look_two, ones, operator, operator_of, or_else, threes, twos}
 use Rattle.operators.specs.declared.Operator.{Operator}
-use Rattle.operators.specs.declared.Operator.TheVariants.{Found, Nothing}
 use Rattle.quick.specs.Operators.{operator_by, packed, quick_at, quick_of}
 use Rattle.readers.specs.Rules.{rules_of}
 use Rattle.readers.specs.declared.reading.Reading.{Reading}
@@ -28,8 +29,6 @@ use Rattle.text.proofs.Decode.{Step, by_step, byte_step, step_byte}
 use Rattle.text.specs.Utf8.{rest, width}
 use Rattle.token.specs.Reads.{got_of}
 use Rattle.token.specs.declared.kind.Kind.{Kind}
-use Rattle.token.specs.declared.kind.Known.{Known}
-use Rattle.token.specs.declared.kind.Known.TheVariants.{Is, Unknown}
 
 -- a byte of a row: ASCII, and not the 0 that stands after the end
 abbrev pub in_row : ℕ → Bool
@@ -52,14 +51,14 @@ unfoldable pub every_three : (ℕ → ℕ → ℕ → Bool) → List (ℕ × ℕ
 every_three f [] = true
 every_three f (r ∷ t) = both (f r.0 r.1 r.2) (every_three f t)
 
-pub found_one : (f : ℕ → Bool) (t : List (ℕ × Kind)) (a : ℕ) (k : Kind) → every_one f t ≡ true → look_one t a ≡ Is k → f a ≡ true
+pub found_one : (f : ℕ → Bool) (t : List (ℕ × Kind)) (a : ℕ) (k : Kind) → every_one f t ≡ true → look_one t a ≡ Some k → f a ≡ true
 unfolding look_one every_one
 found_one f [] a k h e = never (cc)
 found_one f (r ∷ t) a k h e =
     let i = both_inv (f r.0) (every_one f t) h in
     split (eqb a r.0) (λ q. ap f (eqb-true a r.0 q) ∙ i.0) (λ q. found_one f t a k i.1 (rw q at e))
 
-pub found_two : (f : ℕ → ℕ → Bool) (t : List (ℕ × ℕ × Kind)) (a b : ℕ) (k : Kind) → every_two f t ≡ true → look_two t a b ≡ Is k → f a b ≡ true
+pub found_two : (f : ℕ → ℕ → Bool) (t : List (ℕ × ℕ × Kind)) (a b : ℕ) (k : Kind) → every_two f t ≡ true → look_two t a b ≡ Some k → f a b ≡ true
 unfolding look_two every_two
 found_two f [] a b k h e = never (cc)
 found_two f (r ∷ t) a b k h e =
@@ -68,7 +67,7 @@ found_two f (r ∷ t) a b k h e =
     (λ q. let j = both_inv (eqb a r.0) (eqb b r.1) q in (λ x. f (eqb-true a r.0 j.0 x) (eqb-true b r.1 j.1 x)) ∙ i.0)
     (λ q. found_two f t a b k i.1 (rw q at e))
 
-pub found_three : (f : ℕ → ℕ → ℕ → Bool) (t : List (ℕ × ℕ × ℕ × Kind)) (a b c : ℕ) (k : Kind) → every_three f t ≡ true → look_three t a b c ≡ Is k → f a b c ≡ true
+pub found_three : (f : ℕ → ℕ → ℕ → Bool) (t : List (ℕ × ℕ × ℕ × Kind)) (a b c : ℕ) (k : Kind) → every_three f t ≡ true → look_three t a b c ≡ Some k → f a b c ≡ true
 unfolding look_three every_three
 found_three f [] a b c k h e = never (cc)
 found_three f (r ∷ t) a b c k h e =
@@ -80,24 +79,24 @@ found_three f (r ∷ t) a b c k h e =
     (λ x. f (eqb-true a r.0 j.0 x) (eqb-true b r.1 l.0 x) (eqb-true c r.2 l.1 x)) ∙ i.0)
     (λ q. found_three f t a b c k i.1 (rw q at e))
 
-one_row : (a : ℕ) (k : Kind) → look_one ones a ≡ Is k → opens a ≡ true
+one_row : (a : ℕ) (k : Kind) → look_one ones a ≡ Some k → opens a ≡ true
 unfolding every_one ones in_ranges white_space
 one_row a k e = found_one opens ones a k refl e
 
-two_row : (a b : ℕ) (k : Kind) → look_two twos a b ≡ Is k → (opens a ≡ true) × (in_row b ≡ true)
+two_row : (a b : ℕ) (k : Kind) → look_two twos a b ≡ Some k → (opens a ≡ true) × (in_row b ≡ true)
 unfolding every_two twos in_ranges white_space
 two_row a b k e = both_inv (opens a) (in_row b) (found_two (λ x y. both (opens x) (in_row y)) twos a b k refl e)
 
-three_row : (a b c : ℕ) (k : Kind) → look_three threes a b c ≡ Is k → (opens a ≡ true) × (in_row b ≡ true) × (in_row c ≡ true)
+three_row : (a b c : ℕ) (k : Kind) → look_three threes a b c ≡ Some k → (opens a ≡ true) × (in_row b ≡ true) × (in_row c ≡ true)
 unfolding every_three threes in_ranges white_space
 three_row a b c k e =
     let i = both_inv (opens a) (both (in_row b) (in_row c)) (found_three (λ x y z. both (opens x) (both (in_row y) (in_row z))) threes a b c k refl e) in
     let j = both_inv (in_row b) (in_row c) i.1 in
     (i.0, j.0, j.1)
 
-pub by_known : {X : Type 0} (m : Known) → (m ≡ Unknown → X) → ((k : Kind) → m ≡ Is k → X) → X
-by_known Unknown f g = f refl
-by_known (Is k) f g = g k refl
+pub by_known : {X : Type 0} (m : Option Kind) → (m ≡ None → X) → ((k : Kind) → m ≡ Some k → X) → X
+by_known None f g = f refl
+by_known (Some k) f g = g k refl
 
 module _ (s : List ℕ) where
   -- a byte of a row is the scalar there, and a scalar of a row is the byte there
@@ -139,24 +138,24 @@ record Begins (a b c : ℕ) (k : Kind) (n : ℕ) : Type 0 where
   front : opens a ≡ true
   some : 0 < n
   few : n < 4
-  moved : (at : ℕ) → or_else (found_at (look_three threes a b c) (at + 1 + 2)) (or_else (found_at (look_two twos a b) (at + 1 + 1)) (found_at (look_one ones a) (at + 1))) ≡ Found k (at + n)
+  moved : (at : ℕ) → or_else (found_at (look_three threes a b c) (at + 1 + 2)) (or_else (found_at (look_two twos a b) (at + 1 + 1)) (found_at (look_one ones a) (at + 1))) ≡ Some (operator k (at + n))
 
-told : (a b c : ℕ) (k : Kind) (n : ℕ) → operator_by a b c ≡ Found k n → Begins a b c k n
+told : (a b c : ℕ) (k : Kind) (n : ℕ) → operator_by a b c ≡ Some (operator k n) → Begins a b c k n
 unfolding operator_by
 told a b c k n h =
     by_known (look_three threes a b c)
     (λ e. by_known (look_two twos a b)
     (λ f. by_known (look_one ones a) (λ g. never (let z = rw (e, f, g) at h in cc))
-    (λ j g. let z : Found j 1 ≡ Found k n = rw (e, f, g) at h in by_end 1 j z (one_row a j g) (omega arith) (omega arith) (λ at. rw (e, f, g))))
-    (λ j f. let z : Found j 2 ≡ Found k n = rw (e, f) at h in by_end 2 j z (two_row a b j f).0 (omega arith) (omega arith) (λ at. rw (e, f) (ap (Found j) (omega arith)))))
-    (λ j e. let z : Found j 3 ≡ Found k n = rw e at h in by_end 3 j z (three_row a b c j e).0 (omega arith) (omega arith) (λ at. rw e (ap (Found j) (omega arith))))
+    (λ j g. let z : Some (operator j 1) ≡ Some (operator k n) = rw (e, f, g) at h in by_end 1 j z (one_row a j g) (omega arith) (omega arith) (λ at. rw (e, f, g))))
+    (λ j f. let z : Some (operator j 2) ≡ Some (operator k n) = rw (e, f) at h in by_end 2 j z (two_row a b j f).0 (omega arith) (omega arith) (λ at. rw (e, f) (ap (λ (e : ℕ). Some (operator j e)) (omega arith)))))
+    (λ j e. let z : Some (operator j 3) ≡ Some (operator k n) = rw e at h in by_end 3 j z (three_row a b c j e).0 (omega arith) (omega arith) (λ at. rw e (ap (λ (e : ℕ). Some (operator j e)) (omega arith))))
   where
-    by_end : (m : ℕ) (j : Kind) → Found j m ≡ Found k n → opens a ≡ true → 0 < m → m < 4
-        → ((at : ℕ) → or_else (found_at (look_three threes a b c) (at + 1 + 2)) (or_else (found_at (look_two twos a b) (at + 1 + 1)) (found_at (look_one ones a) (at + 1))) ≡ Found j (at + m)) → Begins a b c k n
+    by_end : (m : ℕ) (j : Kind) → Some (operator j m) ≡ Some (operator k n) → opens a ≡ true → 0 < m → m < 4
+        → ((at : ℕ) → or_else (found_at (look_three threes a b c) (at + 1 + 2)) (or_else (found_at (look_two twos a b) (at + 1 + 1)) (found_at (look_one ones a) (at + 1))) ≡ Some (operator j (at + m))) → Begins a b c k n
     by_end m j z o l u f =
-        let ej : j ≡ k = cc in
-        let em : m ≡ n = cc in
-        record { front = o; some = omega arith; few = omega arith; moved = λ at. f at ∙ (λ i. Found (ej i) (at + em i)) }
+        let ej = same_kind j k m n z in
+        let em = same_end j k m n z in
+        record { front = o; some = omega arith; few = omega arith; moved = λ at. f at ∙ (λ i. Some (operator (ej i) (at + em i))) }
 
 -- no number is told of `#` and `/`
 plain : (a b c q : ℕ) → q ≡ quick_of a b c → (q ≡ 0 → ⊥) → (a ≡ 35 → ⊥) × (a ≡ 47 → ⊥) × (q ≡ packed (operator_by a b c))
@@ -194,7 +193,7 @@ module _ (g : Reading) (s : List ℕ) (at : ℕ) where
       let m = both_inv (not (eqb a 96)) (not (eqb a 98)) l.1 in
       let no : (x : ℕ) → not (eqb a x) ≡ true → a ≡ x → ⊥ = λ x h. eqb-false a x (not-true (eqb a x) h) in
       let two : at + 1 + 1 ≡ at + 2 = omega arith in
-      let op : operator_of width a cs (at + 1) ≡ Found k (at + n) = rw (three_bytes s a (at + 1), two_bytes s a (at + 1), two) (rw two at (t.moved at)) in
+      let op : operator_of width a cs (at + 1) ≡ Some (operator k (at + n)) = rw (three_bytes s a (at + 1), two_bytes s a (at + 1), two) (rw two at (t.moved at)) in
       first_next k (at + n) i.0 u (no 96 m.0)
       (other_found g no_template at cs (at + 1) a k (at + n) op ∙ first_other g no_template at cs (at + 1) a (not-true (is_white_space a) j.0) (no 34 l.0) v (no 98 m.1))
 
@@ -211,9 +210,11 @@ module _ (g : Reading) (s : List ℕ) (at : ℕ) where
       c : ℕ
       c = get_or s (at + 2) 0
 
-      by_operator : (o : Operator) → operator_by a b c ≡ o → Operated g s at q
-      by_operator Nothing f = absurd (h ((plain a b c q e h).2 ∙ rw f))
-      by_operator (Found k n) f =
+      by_operator : (o : Option Operator) → operator_by a b c ≡ o → Operated g s at q
+      by_operator None f = absurd (h ((plain a b c q e h).2 ∙ rw f))
+      by_operator (Some o) f =
+          let k = o.kind in
+          let n = o.end in
           let p = plain a b c q e h in
           let t = told a b c k n f in
           let is : q ≡ number_of k * 4 + n = p.2 ∙ rw f in

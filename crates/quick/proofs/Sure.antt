@@ -1,4 +1,5 @@
 -- Where a token is told, the reader reads that token. Assumes nothing.
+use Rattle.std.specs.Prelude.{None}
 use Prim.Native.Nat.{ℕ, ◌+◌, ◌/◌, ◌%◌, ◌≤◌, ◌<◌}
 use mathlib.Core.Path.{◌≡◌, refl, sym, ap, ◌∙◌, subst}
 use mathlib.Core.List.{List, [], ◌∷◌}
@@ -18,7 +19,6 @@ use Rattle.laws.specs.Tables.{every_below, in_ranges}
 use Rattle.lexer.specs.Next.{next_at}
 use Rattle.numbers.specs.Kinds.{number_of}
 use Rattle.operators.specs.Operators.{find_one, find_three, find_two, look_one, look_three, look_two, ones, operator_of, threes, twos}
-use Rattle.operators.specs.declared.Operator.TheVariants.{Nothing}
 use Rattle.quick.proofs.OperatorSure.{by_known, every_one, every_three, every_two, first_next, found_one, found_three, found_two, quick_next}
 use Rattle.quick.proofs.Passes.{pass_stop, run_bytes}
 use Rattle.quick.specs.Operators.{quick_at}
@@ -33,7 +33,6 @@ use Rattle.text.specs.Utf8.{rest, width}
 use Rattle.token.specs.Reads.{got_of}
 use Rattle.token.specs.declared.kind.Kind.{Kind}
 use Rattle.token.specs.declared.kind.Kind.TheVariants.{Ident, Underscore, Whitespace}
-use Rattle.token.specs.declared.kind.Known.TheVariants.{Unknown}
 
 -- the classes below 0x80
 white_blank : (v : ℕ) → v < 0x80 → is_white_space v ≡ either (is_blank v) (either (eqb v 11) (eqb v 12))
@@ -73,19 +72,19 @@ word_low v h =
 
 -- no operator begins with a byte that begins a word
 module _ (a : ℕ) (h : begins_word a ≡ true) where
-  one_none : look_one ones a ≡ Unknown
+  one_none : look_one ones a ≡ None
   unfolding every_one ones
   one_none = by_known (look_one ones a) (λ e. e) (λ k e. never (let z = not-true (begins_word a) (found_one (λ x. not (begins_word x)) ones a k refl e) in cc))
 
-  two_none : (b : ℕ) → look_two twos a b ≡ Unknown
+  two_none : (b : ℕ) → look_two twos a b ≡ None
   unfolding every_two twos
   two_none b = by_known (look_two twos a b) (λ e. e) (λ k e. never (let z = not-true (begins_word a) (found_two (λ x y. not (begins_word x)) twos a b k refl e) in cc))
 
-  three_none : (b c : ℕ) → look_three threes a b c ≡ Unknown
+  three_none : (b c : ℕ) → look_three threes a b c ≡ None
   unfolding every_three threes
   three_none b c = by_known (look_three threes a b c) (λ e. e) (λ k e. never (let z = not-true (begins_word a) (found_three (λ x y z. not (begins_word x)) threes a b c k refl e) in cc))
 
-  no_operator : (cs : List ℕ) (p : ℕ) → operator_of width a cs p ≡ Nothing
+  no_operator : (cs : List ℕ) (p : ℕ) → operator_of width a cs p ≡ None
   unfolding operator_of find_one find_two find_three
   no_operator [] p = rw one_none
   no_operator (w ∷ []) p = rw (two_none w, one_none)

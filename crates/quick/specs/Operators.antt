@@ -1,19 +1,18 @@
 -- An operator told by its bytes, as one number, for speed. No rule of document 01: proofs/ has what it is in its terms.
-use Rattle.std.specs.Prelude.{ℕ, ◌+◌, ◌*◌, List, eqb, get_or}
+use Rattle.std.specs.Prelude.{ℕ, ◌+◌, ◌*◌, List, eqb, get_or, Option, None, Some}
 use Rattle.laws.specs.Bools.{either, pick}
 use Rattle.numbers.specs.Kinds.{number_of}
-use Rattle.operators.specs.Operators.{found_at, look_one, look_three, look_two, ones, or_else, threes, twos}
+use Rattle.operators.specs.Operators.{found_at, look_one, look_three, look_two, ones, operator, or_else, threes, twos}
 use Rattle.operators.specs.declared.Operator.{Operator}
-use Rattle.operators.specs.declared.Operator.TheVariants.{Found, Nothing}
 use Rattle.text.specs.Characters.{hash, slash}
 
 -- four times the kind's number and the length in bytes; 0 for no operator
-abbrev pub packed : Operator → ℕ
-packed (Found k n) = number_of k * 4 + n
-packed Nothing = 0
+abbrev pub packed : Option Operator → ℕ
+packed (Some o) = number_of o.kind * 4 + o.end
+packed None = 0
 
 -- the operator with which the bytes a, b, c begin, with its length: three are tried before two, and two before one
-unfoldable pub operator_by : ℕ → ℕ → ℕ → Operator
+unfoldable pub operator_by : ℕ → ℕ → ℕ → Option Operator
 operator_by a b c = or_else (found_at (look_three threes a b c) 3) (or_else (found_at (look_two twos a b) 2) (found_at (look_one ones a) 1))
 
 -- `#` and `/` are left out: a shebang and comments begin with them

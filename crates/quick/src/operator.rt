@@ -1,4 +1,5 @@
 // An operator told by its bytes as one number: four times its kind's number and its length; 0 where the reader has to be asked.
+// A number and no enum, for the reason beside `Quick`.
 ghost use Rattle.std.specs.Prelude.{◌≡◌, eqb, get_or};
 ghost use Rattle.laws.specs.Bools.{pick};
 ghost use Rattle.quick.specs.Operators.{quick_at, quick_of};

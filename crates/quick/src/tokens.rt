@@ -1,12 +1,14 @@
 // A token told by its bytes: an operator, a word or blanks, all ASCII.
-ghost use Rattle.std.specs.Prelude.{◌+◌, ◌≡◌, drop, length};
+ghost use Rattle.std.specs.Prelude.{ℕ, Bool, ◌+◌, ◌≡◌, drop, length};
 ghost use Rattle.quick.specs.Tokens.{ask, begins_word, blank_at, is_blank, other_at, passing, quick_token_at, word_at};
 ghost use Rattle.readers.specs.Numbers.{in_number};
+ghost use Rattle.readers.specs.Readers.{Tests};
 
 use crate::operator::quick_operator;
 use text::byte_at;
 
-// Its kind's number, and where it ends. Number 0: the reader has to be asked.
+// Its kind's number, and where it ends. Number 0: the reader has to be asked. No enum: one with a place goes through memory, and cost
+// listing 136 instructions an operator.
 #[derive(Clone, Copy)]
 pub struct Quick {
     pub number: u32,
@@ -22,56 +24,32 @@ fn unsure() -> Quick
 fn is_blank(b: u8) -> bool
     ensures { result ≡ is_blank b }
 {
-    match b {
-        9 | 10 | 13 | 32 => true,
-        _ => false,
-    }
+    matches!(b, 9 | 10 | 13 | 32)
 }
 
 fn begins_word(b: u8) -> bool
     ensures { result ≡ begins_word b }
 {
-    match b {
-        65..=90 | 95 | 97..=122 => true,
-        _ => false,
-    }
+    matches!(b, 65..=90 | 95 | 97..=122)
 }
 
 fn is_word(b: u8) -> bool
     ensures { result ≡ in_number b }
 {
-    match b {
-        48..=57 | 65..=90 | 95 | 97..=122 => true,
-        _ => false,
-    }
+    matches!(b, 48..=57 | 65..=90 | 95 | 97..=122)
 }
 
-#[tactic(auto, using(crate::proofs::Passes::pass_stop, crate::proofs::Passes::pass_next, crate::proofs::Passes::pass_end))]
-fn blank_end(s: &[u8], at: usize) -> usize
-    ensures { result ≡ at + length (passing is_blank (drop at s.now)) }
+// Where the run of bytes that pass a test ends.
+fn run_end<F: Fn(u8) -> bool>(s: &[u8], at: usize, passes: F) -> usize
+    requires { F.IsAlwaysCallable passes }
+    ensures { (f : ℕ → Bool) → Tests (F.post passes) f → result ≡ at + length (passing f (drop at s.now)) }
 {
-    let mut p = at;
-    while p < s.len() {
-        if !is_blank(s[p]) {
+    for p in at..s.len() {
+        if !passes(s[p]) {
             return p;
         }
-        p = p + 1;
     }
-    p
-}
-
-#[tactic(auto, using(crate::proofs::Passes::pass_stop, crate::proofs::Passes::pass_next, crate::proofs::Passes::pass_end))]
-fn word_end(s: &[u8], at: usize) -> usize
-    ensures { result ≡ at + length (passing in_number (drop at s.now)) }
-{
-    let mut p = at;
-    while p < s.len() {
-        if !is_word(s[p]) {
-            return p;
-        }
-        p = p + 1;
-    }
-    p
+    at.max(s.len())
 }
 
 // From after the first byte of blanks on.
@@ -79,15 +57,9 @@ fn word_end(s: &[u8], at: usize) -> usize
 fn blank(s: &[u8], at: usize) -> Quick
     ensures { result ≡ blank_at s.now at }
 {
-    let end = blank_end(s, at);
+    let end = run_end(s, at, is_blank);
     let c = byte_at(s, end);
-    if 127 < c {
-        return unsure();
-    }
-    if c == 11 {
-        return unsure();
-    }
-    if c == 12 {
+    if 127 < c || matches!(c, 11 | 12) {
         return unsure();
     }
     Quick { number: 1, end }
@@ -98,23 +70,13 @@ fn blank(s: &[u8], at: usize) -> Quick
 fn word(s: &[u8], a: u8, at: usize) -> Quick
     ensures { result ≡ word_at a s.now at }
 {
-    let end = word_end(s, at);
+    let end = run_end(s, at, is_word);
     let c = byte_at(s, end);
-    if 127 < c {
+    if 127 < c || a == b'b' && matches!(c, b'"' | b'\'') {
         return unsure();
     }
-    if a == b'b' {
-        if c == b'"' {
-            return unsure();
-        }
-        if c == b'\'' {
-            return unsure();
-        }
-    }
-    if a == b'_' {
-        if end == at {
-            return Quick { number: 7, end };
-        }
+    if a == b'_' && end == at {
+        return Quick { number: 7, end };
     }
     Quick { number: 6, end }
 }

@@ -1,15 +1,16 @@
 -- What the code's tests say of each reader's step, in the order of the readers. Assumes nothing.
-use Prim.Native.Nat.{ℕ}
+use Prim.Native.Nat.{ℕ, ◌+◌}
 use mathlib.Core.Path.{◌≡◌, refl}
-use mathlib.Core.List.{List}
+use mathlib.Core.List.{List, [], ◌∷◌}
 use mathlib.Core.Bool.{Bool, true, false}
 use native.Mathlib.Omega.{arith}
 use borrow.Author.Tests.{eq-eqb, ne_eqb}
 use Rattle.classes.specs.Classes.{is_control}
+use Rattle.laws.proofs.Cases.{split}
 use Rattle.laws.specs.Bools.{both}
 use Rattle.readers.specs.Numbers.{begins_digit, in_digits, in_number, joins, number_step, part_on, part_past_dot, signed, unsigned}
-use Rattle.readers.specs.Readers.{backslashed, body, broken, byte_step, char_answer, char_step, control, escape, in_label, letters, run_step, shut, slashed, str_step, text}
-use Rattle.readers.specs.Scan.{before, behind, on}
+use Rattle.readers.specs.Readers.{backslashed, body, broken, byte_step, char_answer, char_step, control, escape, in_label, letters, run, run_step, shut, slashed, str_step, text}
+use Rattle.readers.specs.Scan.{Stride, before, behind, on, scan}
 use Rattle.readers.specs.declared.number.Part.{Part}
 
 pub run_yes : (f : ℕ → Bool) (v : ℕ) (cs : List ℕ) → f v ≡ true → run_step f tt v cs ≡ on tt
@@ -75,13 +76,14 @@ module _ (v : ℕ) (cs : List ℕ) where
         unfolding number_step
         number_sign h k = rw (n, j, h, ne_eqb v 46 k, number_step)
 
-  pub power_more : in_digits v ≡ true → number_step signed v cs ≡ on signed
-  unfolding number_step
-  power_more h = rw (h, number_step)
-
-  pub power_other : in_digits v ≡ false → number_step signed v cs ≡ before signed
-  unfolding number_step
-  power_other h = rw (h, number_step)
+-- after the sign of an exponent a number is a run of digits and `_`
+pub signed_run : (w : Stride) (cs : List ℕ) (p : ℕ) → run w in_digits cs p ≡ (scan number_step w signed p cs p).place
+unfolding run scan number_step
+signed_run w cs p = after_sign cs p p
+  where
+    after_sign : (cs : List ℕ) (l p : ℕ) → (scan (run_step in_digits) w tt l cs p).place ≡ (scan number_step w signed l cs p).place
+    after_sign [] l p = refl
+    after_sign (v ∷ cs) l p = split (in_digits v) (λ h. rw (h, scan, number_step) (after_sign cs p (p + w v))) (λ h. rw (h, scan, number_step) refl)
 
 module _ (l m : Bool) (v : ℕ) (cs : List ℕ) where
   pub char_close : v ≡ 39 → char_step (letters l m) v cs ≡ behind (shut m)

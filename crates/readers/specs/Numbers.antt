@@ -6,9 +6,8 @@ use Rattle.readers.specs.Scan.{Act, Stride, before, on, scan}
 use Rattle.readers.specs.declared.number.Part.{Part}
 use Rattle.readers.specs.declared.number.Part.TheVariants.{Based, Digits, Exponent, Mixed, Zero}
 use Rattle.text.specs.Characters.{capital_e, digit_zero, dot, letter_b, letter_e, letter_o, letter_x, minus, plus, underscore}
-use Rattle.token.specs.Reads.{got_of}
+use Rattle.token.specs.Reads.{got_of, Read}
 use Rattle.token.specs.declared.kind.Kind.TheVariants.{Number}
-use Rattle.token.specs.declared.read.Read.{Read}
 
 -- ASCII letters, digits and `_`
 abbrev pub in_number : ℕ → Bool

@@ -1,6 +1,8 @@
 -- Document 01, "How one token is read" with "Refusal numbers and places", rule by rule in its order. A reader takes the scalars after
 -- a token's opening, their place, and the place a where the token started.
-use Rattle.std.specs.Prelude.{ℕ, zero, suc, List, Bool, true, false, not, eqb}
+use Rattle.token.specs.declared.reason.Reason.TheVariants.{ExpectedByteClose, ExpectedCharClose, ExpectedCharOrLabel, ExpectedEscape, UnterminatedByteLit, UnterminatedByteStrLit, UnterminatedCharLit, UnterminatedStrLit}
+use Rattle.token.specs.declared.reason.Reason.{Reason}
+use Rattle.std.specs.Prelude.{Err, Ok, ℕ, zero, suc, ◌+◌, ◌≡◌, List, [], ◌∷◌, Bool, true, false, not, eqb}
 use Rattle.classes.specs.Classes.{is_control, is_white_space}
 use Rattle.classes.specs.Digits.{is_digit}
 use Rattle.laws.specs.Bools.{both, either, pick, within}
@@ -8,10 +10,9 @@ use Rattle.readers.specs.Rules.{Rules}
 use Rattle.readers.specs.Scan.{Act, How, Stop, Stride, before, behind, ended, full, on, scan, short}
 use Rattle.readers.specs.declared.comments.Ended.{Ended}
 use Rattle.text.specs.Characters.{backslash, double_quote, line_feed, quote, slash, star, underscore}
-use Rattle.token.specs.Reads.{got_of, refused_of}
+use Rattle.token.specs.Reads.{Counted, Read, got_of, refused_of, span_of}
 use Rattle.token.specs.declared.kind.Kind.{Kind}
 use Rattle.token.specs.declared.kind.Kind.TheVariants.{Byte, ByteStr, Char, Ident, Label, MultilineComment, Str, Underscore, Whitespace}
-use Rattle.token.specs.declared.read.Read.{Read}
 
 -- the place where the longest run of scalars that pass a test ends
 abbrev pub run_step : (ℕ → Bool) → Unit {0} → ℕ → List ℕ → Act (Unit {0})
@@ -19,6 +20,10 @@ run_step f s v cs = pick (f v) (on tt) (before tt)
 
 unfoldable pub run : Stride → (ℕ → Bool) → List ℕ → ℕ → ℕ
 run w f cs p = (scan (run_step f) w tt p cs p).place
+
+-- the answers of a test are those of f
+abbrev pub Tests : (ℕ → Bool → Type 0) → (ℕ → Bool) → Type 0
+Tests answers f = (v : ℕ) (b : Bool) → answers v b → b ≡ f v
 
 -- white space
 unfoldable pub white_of : Stride → ℕ → List ℕ → ℕ → Read
@@ -56,6 +61,11 @@ comment_end w k cs p = ended_of (scan comment_step w (skips k) p cs p)
 unfoldable pub comment_of : Stride → ℕ → ℕ → List ℕ → ℕ → Read
 comment_of w k a cs p = let e = comment_end w k cs p in got_of (MultilineComment e.closed) a e.end
 
+-- the place after the scalar that a backslash at b takes along
+abbrev pub taken_of : Stride → ℕ → List ℕ → ℕ → Counted
+taken_of w b [] p = Err (record { reason = ExpectedEscape; span = span_of b p; reached = p })
+taken_of w b (v ∷ cs) p = Ok (p + w v)
+
 -- a byte: its first scalar is not tested; after it a quote closes, and a backslash takes the scalar after it along
 pub data Bytes : Type 0 where
   fresh : Bytes
@@ -71,12 +81,12 @@ byte_step control v cs = behind control
 
 -- 10 after a backslash, 15 at a control, 14 at the end
 abbrev pub byte_answer : ℕ → Bytes → ℕ → ℕ → How → Read
-byte_answer a backslashed l p h = refused_of 10 l p p
-byte_answer a control l p h = refused_of 15 a p p
-byte_answer a fresh l p h = refused_of 14 a p p
+byte_answer a backslashed l p h = refused_of ExpectedEscape l p p
+byte_answer a control l p h = refused_of UnterminatedByteLit a p p
+byte_answer a fresh l p h = refused_of ExpectedByteClose a p p
 byte_answer a body l p full = got_of Byte a p
-byte_answer a body l p ended = refused_of 14 a p p
-byte_answer a body l p short = refused_of 14 a p p
+byte_answer a body l p ended = refused_of ExpectedByteClose a p p
+byte_answer a body l p short = refused_of ExpectedByteClose a p p
 
 unfoldable pub byte_of : Stride → ℕ → List ℕ → ℕ → Read
 byte_of w a cs p = let o = scan byte_step w fresh p cs p in byte_answer a o.state o.last o.place o.how
@@ -95,16 +105,16 @@ abbrev pub str_kind : Bool → Bool → Kind
 str_kind false e = Str e
 str_kind true e = ByteStr e
 
-abbrev pub str_number : Bool → ℕ
-str_number false = 16
-str_number true = 17
+abbrev pub str_reason : Bool → Reason
+str_reason false = UnterminatedStrLit
+str_reason true = UnterminatedByteStrLit
 
 -- 10 after a backslash, 16 or 17 at the end
 abbrev pub str_answer : Bool → ℕ → Quoted → ℕ → ℕ → How → Read
-str_answer b a (slashed e) l p h = refused_of 10 l p p
+str_answer b a (slashed e) l p h = refused_of ExpectedEscape l p p
 str_answer b a (text e) l p full = got_of (str_kind b e) a p
-str_answer b a (text e) l p ended = refused_of (str_number b) a p p
-str_answer b a (text e) l p short = refused_of (str_number b) a p p
+str_answer b a (text e) l p ended = refused_of (str_reason b) a p p
+str_answer b a (text e) l p short = refused_of (str_reason b) a p p
 
 unfoldable pub str_of : Stride → Bool → ℕ → List ℕ → ℕ → Read
 str_of w b a cs p = let o = scan str_step w (text false) p cs p in str_answer b a o.state o.last o.place o.how
@@ -139,12 +149,12 @@ char_step broken v cs = before broken
 
 -- 10 after a backslash, 11 before a control, 12 for `''` (its span's end is the source's, which the caller adds), 13 for `'` at the end
 abbrev pub char_answer : ℕ → Chars → ℕ → ℕ → Read
-char_answer a escape l p = refused_of 10 l p p
-char_answer a broken l p = refused_of 11 a p p
-char_answer a (shut false) l p = refused_of 12 a p p
+char_answer a escape l p = refused_of ExpectedEscape l p p
+char_answer a broken l p = refused_of UnterminatedCharLit a p p
+char_answer a (shut false) l p = refused_of ExpectedCharClose a p p
 char_answer a (shut true) l p = got_of Char a p
-char_answer a (letters false false) l p = refused_of 12 a p p
-char_answer a (letters true false) l p = refused_of 13 a p p
+char_answer a (letters false false) l p = refused_of ExpectedCharClose a p p
+char_answer a (letters true false) l p = refused_of ExpectedCharOrLabel a p p
 char_answer a (letters false true) l p = got_of Char a p
 char_answer a (letters true true) l p = got_of Label a p
 

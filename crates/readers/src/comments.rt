@@ -1,53 +1,52 @@
 // White space, lines and comments.
-ghost use Rattle.std.specs.Prelude.{◌≡◌};
+ghost use Rattle.std.specs.Prelude.{ℕ, Bool, ◌≡◌};
 ghost use Rattle.classes.specs.Classes.{is_white_space};
 ghost use Rattle.readers.specs.Passing.{pass_one, untested};
-ghost use Rattle.readers.specs.Readers.{comment_end, comment_of, in_line, run};
+ghost use Rattle.readers.specs.Readers.{Tests, comment_end, comment_of, in_line, run};
 ghost use Rattle.readers.specs.Rules.{skip_of};
 ghost use Rattle.text.specs.Utf8.{rest, width};
 
 use crate::reading::Comments;
 use text::Scalar;
 use text::character::LINE_FEED;
-use token::{Kind, Read};
+use token::{Kind, Refusal, Token};
+
+// The place where the run of scalars that pass a test ends.
+pub fn run_end<F: Fn(u32) -> bool>(s: &[u8], at: usize, passes: F) -> usize
+    requires { F.IsAlwaysCallable passes }
+    ensures { (f : ℕ → Bool) → Tests (F.post passes) f → result ≡ run width f (rest s.now at) at }
+{
+    let mut p = at;
+    loop {
+        let Some(Scalar { value, next }) = text::scalar_at(s, p) else {
+            return p;
+        };
+        if !passes(value) {
+            return p;
+        }
+        p = next;
+    }
+}
 
 // The place where the white space at a place ends.
 pub fn consume_whitespace(s: &[u8], at: usize) -> usize
     ensures { result ≡ run width is_white_space (rest s.now at) at }
 {
-    let mut p = at;
-    loop {
-        let Scalar::One { value, next } = text::scalar_at(s, p) else {
-            return p;
-        };
-        if !classes::is_whitespace(value) {
-            return p;
-        }
-        p = next;
-    }
+    run_end(s, at, classes::is_whitespace)
 }
 
 // The place of the next LF, or the end.
 pub fn consume_line(s: &[u8], at: usize) -> usize
     ensures { result ≡ run width in_line (rest s.now at) at }
 {
-    let mut p = at;
-    loop {
-        let Scalar::One { value, next } = text::scalar_at(s, p) else {
-            return p;
-        };
-        if value == LINE_FEED {
-            return p;
-        }
-        p = next;
-    }
+    run_end(s, at, |v| v != LINE_FEED)
 }
 
 // The place after a scalar, or the same place where there is none.
 fn pass_one(s: &[u8], at: usize) -> usize
     ensures { result ≡ pass_one width (rest s.now at) at }
 {
-    let Scalar::One { value: _, next } = text::scalar_at(s, at) else {
+    let Some(Scalar { value: _, next }) = text::scalar_at(s, at) else {
         return at;
     };
     next
@@ -63,8 +62,8 @@ fn pass_untested(s: &[u8], comments: Comments, at: usize) -> usize
     }
 }
 
-// Where a comment ends, and whether a close ended it.
-#[derive(Drop)]
+// Where a comment ends, and whether a close ended it. No Option: the place counts in both cases, as document 01 has it.
+#[derive(Clone, Copy)]
 struct Ended {
     end: usize,
     closed: bool,
@@ -77,7 +76,7 @@ fn comment_end(s: &[u8], at: usize) -> Ended
     let mut p = at;
     loop {
         if text::byte_at(s, p) == b'*' {
-            p = p + 1;
+            p += 1;
             if text::byte_at(s, p) == b'/' {
                 break Ended {
                     end: p + 1,
@@ -85,7 +84,7 @@ fn comment_end(s: &[u8], at: usize) -> Ended
                 };
             }
         } else {
-            let Scalar::One { value: _, next } = text::scalar_at(s, p) else {
+            let Some(Scalar { value: _, next }) = text::scalar_at(s, p) else {
                 break Ended {
                     end: p,
                     closed: false,
@@ -97,15 +96,14 @@ fn comment_end(s: &[u8], at: usize) -> Ended
 }
 
 // A comment, from after its opening on.
-pub fn next_multiline_comment(s: &[u8], comments: Comments, start: usize, at: usize) -> Read
+pub fn next_multiline_comment(
+    s: &[u8],
+    comments: Comments,
+    start: usize,
+    at: usize,
+) -> Result<Token, Refusal>
     ensures { result ≡ comment_of width (skip_of comments) start (rest s.now at) at }
 {
-    let ended = comment_end(s, pass_untested(s, comments, at));
-    token::got(
-        Kind::MultilineComment {
-            closed: ended.closed,
-        },
-        start,
-        ended.end,
-    )
+    let Ended { end, closed } = comment_end(s, pass_untested(s, comments, at));
+    token::got(Kind::MultilineComment { closed }, start, end)
 }

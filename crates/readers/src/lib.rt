@@ -1,10 +1,12 @@
-// White space, lines and comments, each total on every slice and place. The rule of every reader of document 01 stands in specs/.
+// White space, lines, comments and what a backslash takes along, each total on every slice and place. The rule of every reader of document 01 stands in specs/.
 #![tactic(auto)]
 
 mod comments;
+mod escape;
 mod number;
 mod reading;
 
-pub use comments::{consume_line, consume_whitespace, next_multiline_comment};
+pub use comments::{consume_line, consume_whitespace, next_multiline_comment, run_end};
+pub use escape::escaped_end;
 pub use number::Part;
-pub use reading::{Chosen, Comments, Reading};
+pub use reading::{Comments, Reading};

@@ -3,111 +3,55 @@
 // list.answers, with numbers.frames and numbers.answers after them.
 #![tactic(auto)]
 
-ghost use Rattle.std.specs.Prelude.{◌≤◌, ◌<◌};
-
-use buffer::fault::has_no_reader;
-use buffer::{Output, output_to, read_full};
+use buffer::{Writer, fill};
 use readers::{Comments, Reading};
-use std::io::Stdin;
+use std::io;
+use std::io::{Read, Stdin};
 
-#[derive(Drop)]
-enum Frame {
-    List { length: usize },
-    End,
-}
-
-fn wide(byte: u8) -> usize
-    ensures { result < 256 }
-{
-    byte as usize
-}
+type Out = Writer<65536>;
 
 // A mode byte and a length, low byte first. Any other mode ends the replay.
-fn read_head(from: &mut Stdin) -> Frame {
+fn read_head(from: &mut Stdin) -> Option<usize> {
     let mut head = [0u8; 5];
-    let got = read_full(from, &mut head);
-    if got < 5 {
-        return Frame::End;
+    from.read_exact(&mut head).ok()?;
+    let [mode, a, b, c, d] = head;
+    if mode != b'L' {
+        return None;
     }
-    if head[0] != b'L' {
-        return Frame::End;
-    }
-    let low = wide(head[1]) + 256 * wide(head[2]);
-    let high = wide(head[3]) + 256 * wide(head[4]);
-    Frame::List {
-        length: low + 65536 * high,
-    }
-}
-
-// Reads past what an over-long payload has beyond the lent bytes, by way of them.
-fn skip(from: &mut Stdin, source: &mut [u8], count: usize) {
-    let mut left = count;
-    while source.len() < left {
-        if read_full(from, source) == 0 {
-            return;
-        }
-        left = left - source.len();
-    }
-    read_full(from, &mut source[..left]);
-}
-
-fn list_payload(
-    from: &mut Stdin,
-    source: &mut [u8],
-    to: &mut Output,
-    out: &mut [u8],
-    waiting: usize,
-) -> usize {
-    let got = read_full(from, source);
-    let reading = Reading {
-        comments: Comments::Crate,
-    };
-    let printed = printing::list(to, &source[..got], reading, out, waiting);
-    printed.waiting
-}
-
-fn least(a: usize, b: usize) -> usize
-    ensures { (result ≤ a) × (result ≤ b) }
-{
-    if a < b { a } else { b }
+    Some(u32::from_le_bytes([a, b, c, d]) as usize)
 }
 
 // The frame's answer and a line `.`. A payload that does not fit is over-long in any case: its front is listed.
-fn answer(
-    from: &mut Stdin,
-    length: usize,
-    source: &mut [u8],
-    to: &mut Output,
-    out: &mut [u8],
-    waiting: usize,
-) -> usize {
-    let held = least(length, source.len());
-    let listed = list_payload(from, &mut source[..held], to, out, waiting);
-    skip(from, source, length - held);
-    buffer::put_bytes(to, out, listed, b".\n")
+fn answer(from: &mut Stdin, length: usize, source: &mut [u8], out: &mut Out) -> io::Result<()> {
+    let held = length.min(source.len());
+    let got = fill(from, &mut source[..held])?;
+    let reading = Reading {
+        comments: Comments::Crate,
+    };
+    let _ = printing::list(out, &source[..got], reading);
+    out.put_bytes(b".\n");
+    let mut rest = from.take((length - held) as u64);
+    io::copy(&mut rest, &mut io::sink())?;
+    Ok(())
 }
 
 // Nothing says that the input ends: the number of turns falls. Where nobody reads the answers there are no more.
-fn answer_all(from: &mut Stdin, source: &mut [u8], to: &mut Output, out: &mut [u8]) -> usize {
-    let mut waiting: usize = 0;
-    let mut turns = u64::MAX;
-    while turns > 0 {
-        let Frame::List { length } = read_head(from) else {
-            return waiting;
+fn answer_all(from: &mut Stdin, source: &mut [u8], out: &mut Out) -> io::Result<()> {
+    for _ in 0..u64::MAX {
+        let Some(length) = read_head(from) else {
+            break;
         };
-        waiting = answer(from, length, source, to, out, waiting);
-        if has_no_reader(to.fault) {
-            return waiting;
+        answer(from, length, source, out)?;
+        if out.is_left() {
+            break;
         }
-        turns = turns - 1;
     }
-    waiting
+    Ok(())
 }
 
 fn main(rt: HostRuntime) {
     let mut source = [0u8; 65537];
-    let mut to = output_to(rt.stdout());
-    let mut out = [0u8; 65536];
-    let waiting = answer_all(&mut rt.stdin(), &mut source, &mut to, &mut out);
-    buffer::flush(&mut to, &out, waiting);
+    let mut out = Out::new(rt.stdout());
+    let _ = answer_all(&mut rt.stdin(), &mut source, &mut out);
+    let _ = out.flush();
 }

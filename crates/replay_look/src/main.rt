@@ -5,168 +5,94 @@
 mod calls;
 mod lines;
 
-ghost use Rattle.std.specs.Prelude.{◌<◌};
-
-use buffer::page::{Page, put_bytes};
-use buffer::{page, read_full};
-use listing::Listed;
-use places::part;
+use buffer::Page;
+use listing::Stopped;
 use readers::{Comments, Reading};
-use std::io::{Stdin, Stdout};
+use std::io::{Read, Stdin, Stdout};
 
 // Where the source ends in a frame's payload, and where the calls after it do; and whether white space is kept.
-#[derive(Drop)]
-enum Frame {
-    Script {
-        keep: bool,
-        source: usize,
-        end: usize,
-    },
-    End,
+#[derive(Clone, Copy)]
+struct Frame {
+    keep: bool,
+    source: usize,
+    end: usize,
 }
 
-fn wide(byte: u8) -> usize
-    ensures { result < 256 }
-{
-    byte as usize
+fn length_of(bytes: [u8; 4]) -> usize {
+    u32::from_le_bytes(bytes) as usize
 }
 
-fn length_of(a: u8, b: u8, c: u8, d: u8) -> usize {
-    wide(a) + wide(b) * 256 + wide(c) * 65536 + wide(d) * 16777216
-}
-
-// There is room for a source of 4096 bytes, and for as many calls.
-fn frame_of(mode: u8, keep: u8, payload: usize, source: usize) -> Frame {
-    if mode != b'a' {
-        return Frame::End;
+// A mode byte, the payload's length, the byte for white space and the source's length, lengths low byte first. There is room for a
+// source of 4096 bytes, and for as many calls.
+fn read_head(from: &mut Stdin) -> Option<Frame> {
+    let mut head = [0u8; 10];
+    from.read_exact(&mut head).ok()?;
+    let [mode, a, b, c, d, keep, e, f, g, h] = head;
+    let end = length_of([a, b, c, d]).checked_sub(5)?;
+    let source = length_of([e, f, g, h]);
+    if mode != b'a' || 4096 < source {
+        return None;
     }
-    if payload < 5 {
-        return Frame::End;
-    }
-    if 4096 < source {
-        return Frame::End;
-    }
-    Frame::Script {
+    Some(Frame {
         keep: keep == 1,
         source,
-        end: payload - 5,
-    }
-}
-
-// A mode byte, the payload's length, the byte for white space and the source's length, lengths low byte first.
-fn read_head(from: &mut Stdin) -> Frame {
-    let mut head = [0u8; 10];
-    if read_full(from, &mut head) < 10 {
-        return Frame::End;
-    }
-    frame_of(
-        head[0],
-        head[5],
-        length_of(head[1], head[2], head[3], head[4]),
-        length_of(head[6], head[7], head[8], head[9]),
-    )
-}
-
-fn read_payload(from: &mut Stdin, payload: &mut [u8], size: usize) -> bool {
-    if payload.len() < size {
-        return false;
-    }
-    read_full(from, &mut payload[..size]) == size
+        end,
+    })
 }
 
 // The words of so many tokens.
 fn front(list: &[u32], count: usize) -> &[u32] {
-    let most = list.len() / 3;
-    if count < most {
-        return &list[..count * 3];
-    }
-    list
+    list.get(..count.saturating_mul(3)).unwrap_or(list)
 }
 
 // The source is the payload's first bytes, and the calls are the others.
 fn answer(
-    to: Stdout,
-    payload: &[u8],
+    out: &mut Page,
     keep: bool,
-    source: usize,
-    end: usize,
-    list: &mut [u32; 12288],
-    written: &mut [u32; 12288],
-) -> Page {
-    let reading = Reading {
-        comments: Comments::Crate,
-    };
-    match listing::list(part(payload, 0, source), reading, list) {
-        Listed::Stopped { count: _, refusal } => {
-            let span = refusal.span;
-            lines::put_refused(page::blank(to), refusal.number, span.start, span.end)
-        }
-        Listed::Whole { count } => calls::put_calls(
-            page::blank(to),
-            keep,
-            front(list, count),
-            part(payload, source, end),
-            written,
-        ),
-    }
-}
-
-fn read_frame(from: &mut Stdin, payload: &mut [u8]) -> Frame {
-    let Frame::Script { keep, source, end } = read_head(from) else {
-        return Frame::End;
-    };
-    if !read_payload(from, payload, end) {
-        return Frame::End;
-    }
-    Frame::Script { keep, source, end }
-}
-
-// A frame's answer and a line `.`; false where there was none, or nobody reads.
-fn turn(
-    from: &mut Stdin,
-    to: Stdout,
-    payload: &mut [u8; 65536],
-    list: &mut [u32; 12288],
-    written: &mut [u32; 12288],
-) -> bool {
-    let Frame::Script { keep, source, end } = read_frame(from, payload) else {
-        return false;
-    };
-    let answered = answer(to, payload, keep, source, end, list, written);
-    page::flush(put_bytes(answered, b".\n"))
-}
-
-// Nothing says that the input ends: the number of turns falls.
-fn answer_all(
-    from: &mut Stdin,
-    to: Stdout,
-    payload: &mut [u8; 65536],
+    source: &[u8],
+    script: &[u8],
     list: &mut [u32; 12288],
     written: &mut [u32; 12288],
 ) {
-    let mut turns = u64::MAX;
-    while turns > 0 {
-        if !turn(from, to, payload, list, written) {
-            return;
-        }
-        turns = turns - 1;
+    let reading = Reading {
+        comments: Comments::Crate,
+    };
+    match listing::list(source, reading, list) {
+        Err(Stopped { refusal, .. }) => lines::put_refused(out, refusal),
+        Ok(count) => { lines::put_calls(out, keep, front(list, count), script, written) }
     }
 }
 
-// Three words for each byte of a source.
-fn words() -> [u32; 12288] {
-    [0; 12288]
+// A frame's answer and a line `.`; nothing where there was none, or nobody reads.
+fn turn(
+    from: &mut Stdin,
+    to: Stdout,
+    payload: &mut [u8],
+    list: &mut [u32; 12288],
+    written: &mut [u32; 12288],
+) -> Option<()> {
+    let frame = read_head(from)?;
+    let payload = payload.get_mut(..frame.end)?;
+    from.read_exact(payload).ok()?;
+    let source = places::part(payload, 0, frame.source);
+    let script = places::part(payload, frame.source, frame.end);
+    let mut out = Page::new(to);
+    answer(&mut out, frame.keep, source, script, list, written);
+    out.put_bytes(b".\n");
+    out.flush().ok()
 }
 
 fn main(rt: HostRuntime) {
     let mut payload = [0u8; 65536];
-    let mut list = words();
-    let mut written = words();
-    answer_all(
-        &mut rt.stdin(),
-        rt.stdout(),
-        &mut payload,
-        &mut list,
-        &mut written,
-    );
+    // Three words for each byte of a source.
+    let mut list = [0u32; 12288];
+    let mut written = [0u32; 12288];
+    let mut from = rt.stdin();
+    let to = rt.stdout();
+    // Nothing says that the input ends: the number of turns falls.
+    for _ in 0..u64::MAX {
+        if turn(&mut from, to, &mut payload, &mut list, &mut written).is_none() {
+            break;
+        }
+    }
 }

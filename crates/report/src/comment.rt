@@ -1,71 +1,56 @@
 // A comment that ends elsewhere than it seems to: its opening, and where it is closed.
-use crate::drawing::{Sheet, digits_of, less, put_label, put_mark, put_mark_end};
-use crate::finding::Finding;
-use crate::notes::{put_help, put_open_end};
-use crate::stretch;
-use crate::stretch::{first_close, is_bare, put_all_named};
-use buffer::page::{Page, put_bytes};
+use crate::drawing::Sheet;
+use buffer::Page;
 use places::{Place, moved};
-use readers::Reading;
+use token::Kind;
 
-// Whether the comment at a place runs to the end of the source.
-fn is_open(s: &[u8], reading: Reading, at: usize) -> bool {
-    let token = stretch::token_at(s, reading, at);
-    token.kind == 4
-}
+impl Sheet<'_> {
+    // Whether the comment runs to the end of the source.
+    fn is_open(&self) -> bool {
+        let token = self.source.token_at(self.finding.start);
+        token.is_some_and(|token| matches!(token.kind, Kind::MultilineComment { closed: false }))
+    }
 
-// Where a comment that runs on is closed, and what stands between.
-fn put_closing(out: Page, s: &[u8], sheet: Sheet, p: Place, f: Finding) -> Page {
-    let out = put_mark(out, s, sheet, p.line, p.at, f.to);
-    let named = stretch::name(s, first_close(), f.from, f.to, 2);
-    if is_bare(named) {
-        return put_label(
+    // Where its close begins, if anything closes it.
+    fn close(&self) -> Option<Place> {
+        if self.is_open() {
+            return None;
+        }
+        let to = self.finding.to.saturating_sub(2);
+        Some(moved(self.source.bytes, self.place, to))
+    }
+
+    // Where a comment that runs on is closed, and what stands between.
+    fn put_closing(&self, out: &mut Page, close: Place) {
+        let f = self.finding;
+        self.put_mark(out, close.line, close.at, f.to);
+        let named = self.source.as_it_seems().name(f.from, close.at);
+        if named.is_bare() {
+            self.put_label(
+                out,
+                b"it closes here; nothing but white space and comments stands between",
+            );
+            return;
+        }
+        out.put_bytes(b" it closes here: ");
+        named.put_all(out);
+        out.put_bytes(b" is not in force");
+        self.put_mark_end(out);
+    }
+
+    pub(crate) fn put_comment(&self, out: &mut Page) {
+        let close = self.close();
+        let sheet = self.with_line(close.map_or(self.place.line, |close| close.line));
+        let f = self.finding;
+        sheet.put_mark(out, self.place.line, f.start, f.from);
+        sheet.put_label(
             out,
-            sheet,
-            b"it closes here; nothing but white space and comments stands between",
+            b"rune passes over two characters after `/*`, so this `*/` does not close",
         );
+        match close {
+            None => sheet.put_open_end(out),
+            Some(close) => sheet.put_closing(out, close),
+        }
+        sheet.put_help(out);
     }
-    let mut out = put_bytes(out, b" it closes here: ");
-    out = put_all_named(out, s, named);
-    out = put_bytes(out, b" is not in force");
-    put_mark_end(out, sheet)
-}
-
-// Where its close begins; where nothing closes it, its own place.
-fn close_of(s: &[u8], open: bool, p: Place, to: usize) -> Place {
-    if open {
-        return p;
-    }
-    moved(s, p, less(to, 2))
-}
-
-fn put_rest(out: Page, s: &[u8], sheet: Sheet, open: bool, close: Place, f: Finding) -> Page {
-    if open {
-        return put_open_end(out, s, sheet, f);
-    }
-    put_closing(out, s, sheet, close, f)
-}
-
-pub(crate) fn put_comment(
-    out: Page,
-    s: &[u8],
-    reading: Reading,
-    ink: u8,
-    p: Place,
-    f: Finding,
-) -> Page {
-    let open = is_open(s, reading, f.start);
-    let close = close_of(s, open, p, f.to);
-    let sheet = Sheet {
-        ink,
-        width: digits_of(close.line),
-    };
-    let mut out = put_mark(out, s, sheet, p.line, f.start, f.from);
-    out = put_label(
-        out,
-        sheet,
-        b"rune passes over two characters after `/*`, so this `*/` does not close",
-    );
-    out = put_rest(out, s, sheet, open, close, f);
-    put_help(out, sheet, f.number)
 }

@@ -1,157 +1,133 @@
 // A source line, and under it a mark. A tab stays a tab in both, so that the mark stands under what it marks.
-use crate::ink::{put_ink, put_reset};
-use buffer::page::{Page, put, put_bytes, put_decimal};
-use places::{Window, after, part};
-use text::Scalar;
+use crate::finding::Finding;
+use crate::ink::{Ink, put_ink, put_reset};
+use crate::scalars::Scalars;
+use crate::source::Source;
+use buffer::Page;
+use places::{Place, Window};
+use std::fmt::Write;
 
-// The ink of marks, and how many digits the largest line number has that a finding shows.
-#[derive(Clone, Copy, Drop)]
-pub(crate) struct Sheet {
-    pub ink: u8,
+// A finding on its way out: where it stands, the ink of its marks, and how many digits the largest line number has that it shows.
+#[derive(Clone, Copy)]
+pub(crate) struct Sheet<'a> {
+    pub source: Source<'a>,
+    pub place: Place,
+    pub finding: Finding,
+    pub ink: Option<Ink>,
     pub width: usize,
-}
-
-pub(crate) fn digits_of(line: usize) -> usize {
-    let mut count: usize = 1;
-    let mut left = line / 10;
-    while 0 < left {
-        count = count + 1;
-        left = left / 10;
-    }
-    count
-}
-
-fn put_blanks(out: Page, count: usize) -> Page {
-    let mut out = out;
-    let mut left = count;
-    while 0 < left {
-        out = put(out, b' ');
-        left = left - 1;
-    }
-    out
-}
-
-// What stands before a line that is no source line.
-pub(crate) fn put_edge(out: Page, sheet: Sheet, sign: u8) -> Page {
-    let mut out = put_blanks(out, sheet.width);
-    out = put_bytes(out, b"   ");
-    out = put(out, sign);
-    put(out, b' ')
-}
-
-pub(crate) fn less(a: usize, b: usize) -> usize {
-    if b < a { a - b } else { 0 }
-}
-
-fn put_line_number(out: Page, sheet: Sheet, line: usize) -> Page {
-    let mut out = put_bytes(out, b"  ");
-    out = put_blanks(out, less(sheet.width, digits_of(line)));
-    out = put_decimal(out, line as u64);
-    put_bytes(out, b" | ")
 }
 
 // What cannot be seen: controls but the tab, and the byte order mark.
 fn is_hidden(value: u32) -> bool {
-    if value == 9 {
-        return false;
+    match value {
+        9 => false,
+        0xFEFF => true,
+        _ => classes::is_control(value),
     }
-    if value == 0xFEFF {
-        return true;
-    }
-    classes::is_control(value)
 }
 
-fn put_replacement(out: Page) -> Page {
-    put_bytes(out, b"\xef\xbf\xbd")
+fn is_shown(scalar: &[u8]) -> bool {
+    text::scalar_at(scalar, 0).is_some_and(|scalar| !is_hidden(scalar.value))
 }
 
-fn put_scalar(out: Page, bytes: &[u8], at: usize) -> Page {
-    let Scalar::One { value, next } = text::scalar_at(bytes, at) else {
-        return put_replacement(out);
-    };
-    if is_hidden(value) {
-        return put_replacement(out);
+pub(crate) fn put_shown(out: &mut Page, bytes: &[u8]) {
+    for scalar in Scalars(bytes) {
+        if is_shown(scalar) {
+            out.put_bytes(scalar);
+        } else {
+            out.put_bytes(b"\xef\xbf\xbd");
+        }
     }
-    put_bytes(out, part(bytes, at, next))
-}
-
-pub(crate) fn put_shown(out: Page, bytes: &[u8]) -> Page {
-    let mut out = out;
-    let mut i: usize = 0;
-    while i < bytes.len() {
-        out = put_scalar(out, bytes, i);
-        i = after(bytes, i);
-    }
-    out
-}
-
-fn sign_under(byte: u8, sign: u8) -> u8 {
-    if byte == b'\t' { b'\t' } else { sign }
 }
 
 // A sign under each scalar.
-fn put_under(out: Page, bytes: &[u8], sign: u8) -> Page {
-    let mut out = out;
-    let mut i: usize = 0;
-    while i < bytes.len() {
-        out = put(out, sign_under(bytes[i], sign));
-        i = after(bytes, i);
+fn put_under(out: &mut Page, bytes: &[u8], sign: u8) {
+    for scalar in Scalars(bytes) {
+        match scalar {
+            b"\t" => out.put(b'\t'),
+            _ => out.put(sign),
+        }
     }
-    out
 }
 
 // One caret at least, also under nothing.
-fn put_carets(out: Page, bytes: &[u8]) -> Page {
-    let out = put(out, b'^');
-    put_under(out, part(bytes, after(bytes, 0), bytes.len()), b'^')
+fn put_carets(out: &mut Page, bytes: &[u8]) {
+    out.put(b'^');
+    let mut scalars = Scalars(bytes);
+    let _ = scalars.next();
+    put_under(out, scalars.0, b'^');
 }
 
-// Some bytes, or nothing.
-pub fn put_if(out: Page, asked: bool, bytes: &[u8]) -> Page {
+fn put_if(out: &mut Page, asked: bool, bytes: &[u8]) {
     if asked {
-        return put_bytes(out, bytes);
+        out.put_bytes(bytes);
     }
-    out
 }
 
-fn put_source(out: Page, s: &[u8], sheet: Sheet, line: usize, w: Window) -> Page {
-    let mut out = put_line_number(out, sheet, line);
-    out = put_if(out, w.left, b"..");
-    out = put_shown(out, part(s, w.from, w.to));
-    out = put_if(out, w.right, b"..");
-    put(out, b'\n')
+// How many digits a line number has.
+fn width_of(line: usize) -> usize {
+    line.checked_ilog10().map_or(1, |log| log as usize + 1)
 }
 
-pub(crate) fn least(a: usize, b: usize) -> usize {
-    if a < b { a } else { b }
-}
+impl<'a> Sheet<'a> {
+    pub(crate) fn new(
+        source: Source<'a>,
+        place: Place,
+        finding: Finding,
+        ink: Option<Ink>,
+    ) -> Self {
+        Sheet {
+            source,
+            place,
+            finding,
+            ink,
+            width: width_of(place.line),
+        }
+    }
 
-// The line that a place stands on, and carets from there to before another place, as far as the line is shown. The ink stays on for what is said.
-pub(crate) fn put_mark(
-    out: Page,
-    s: &[u8],
-    sheet: Sheet,
-    line: usize,
-    from: usize,
-    to: usize,
-) -> Page {
-    let w = places::around(s, from);
-    let mut out = put_source(out, s, sheet, line, w);
-    out = put_edge(out, sheet, b'|');
-    out = put_if(out, w.left, b"  ");
-    out = put_under(out, part(s, w.from, from), b' ');
-    out = put_ink(out, sheet.ink);
-    put_carets(out, part(s, from, least(to, w.to)))
-}
+    // Where a later line is the last that it shows.
+    pub(crate) fn with_line(&self, line: usize) -> Self {
+        Sheet {
+            width: width_of(line),
+            ..*self
+        }
+    }
 
-pub(crate) fn put_mark_end(out: Page, sheet: Sheet) -> Page {
-    let out = put_reset(out, sheet.ink);
-    put(out, b'\n')
-}
+    // What stands before a line that is no source line.
+    pub(crate) fn put_edge(&self, out: &mut Page, sign: char) {
+        let width = self.width;
+        let _ = write!(out, "{:width$}   {sign} ", "");
+    }
 
-// What a mark says.
-pub(crate) fn put_label(out: Page, sheet: Sheet, label: &[u8]) -> Page {
-    let mut out = put_if(out, 0 < label.len(), b" ");
-    out = put_bytes(out, label);
-    put_mark_end(out, sheet)
+    fn put_source(&self, out: &mut Page, line: usize, w: Window) {
+        let width = self.width;
+        let _ = write!(out, "  {line:width$} | ");
+        put_if(out, w.left, b"..");
+        put_shown(out, self.source.part(w.from, w.to));
+        put_if(out, w.right, b"..");
+        out.put(b'\n');
+    }
+
+    // The line that a place stands on, and carets from there to before another place, as far as the line is shown. The ink stays on for what is said.
+    pub(crate) fn put_mark(&self, out: &mut Page, line: usize, from: usize, to: usize) {
+        let w = places::around(self.source.bytes, from);
+        self.put_source(out, line, w);
+        self.put_edge(out, '|');
+        put_if(out, w.left, b"  ");
+        put_under(out, self.source.part(w.from, from), b' ');
+        put_ink(out, self.ink);
+        put_carets(out, self.source.part(from, to.min(w.to)));
+    }
+
+    pub(crate) fn put_mark_end(&self, out: &mut Page) {
+        put_reset(out, self.ink);
+        out.put(b'\n');
+    }
+
+    // What a mark says.
+    pub(crate) fn put_label(&self, out: &mut Page, label: &[u8]) {
+        put_if(out, !label.is_empty(), b" ");
+        out.put_bytes(label);
+        self.put_mark_end(out);
+    }
 }

@@ -1,33 +1,30 @@
-// Colours of a terminal, each by the digit of its code. Where the ink is NONE nothing is written.
-use buffer::page::{Page, put, put_bytes};
+// Colours of a terminal. Without an ink nothing is written.
+use buffer::Page;
 
-pub(crate) const NONE: u8 = 0;
-
-pub(crate) const RED: u8 = b'1';
-
-pub(crate) const YELLOW: u8 = b'3';
-
-pub(crate) const CYAN: u8 = b'6';
-
-pub(crate) fn put_ink(out: Page, ink: u8) -> Page {
-    if ink == NONE {
-        return out;
-    }
-    let mut out = put_bytes(out, b"\x1b[3");
-    out = put(out, ink);
-    put(out, b'm')
+// Each by the digit of its code.
+#[derive(Clone, Copy)]
+pub(crate) enum Ink {
+    Red = 1,
+    Yellow = 3,
+    Cyan = 6,
 }
 
-pub(crate) fn put_bold(out: Page, ink: u8) -> Page {
-    if ink == NONE {
-        return out;
+pub(crate) fn put_ink(out: &mut Page, ink: Option<Ink>) {
+    if let Some(ink) = ink {
+        out.put_bytes(b"\x1b[3");
+        out.put(b'0' + ink as u8);
+        out.put(b'm');
     }
-    put_bytes(out, b"\x1b[1m")
 }
 
-pub(crate) fn put_reset(out: Page, ink: u8) -> Page {
-    if ink == NONE {
-        return out;
+pub(crate) fn put_bold(out: &mut Page, ink: Option<Ink>) {
+    if ink.is_some() {
+        out.put_bytes(b"\x1b[1m");
     }
-    put_bytes(out, b"\x1b[0m")
+}
+
+pub(crate) fn put_reset(out: &mut Page, ink: Option<Ink>) {
+    if ink.is_some() {
+        out.put_bytes(b"\x1b[0m");
+    }
 }

@@ -1,109 +1,77 @@
 // A finding as one JSON object on a line.
-use crate::drawing::put_if;
-use crate::finding::{Finding, put_severity, severity_of};
-use buffer::page::{Page, put, put_bytes, put_decimal};
+use crate::finding::{Finding, Matter};
+use crate::source::Source;
+use buffer::Page;
 use places::{Place, moved};
-use token::refusal::NO_ROOM;
+use std::fmt::Write;
+use token::Reason;
 
-const HEX: [u8; 16] = [
-    b'0', b'1', b'2', b'3', b'4', b'5', b'6', b'7', b'8', b'9', b'a', b'b', b'c', b'd', b'e', b'f',
-];
-
-fn put_control(out: Page, byte: u8) -> Page {
-    let high = (byte / 16) as usize;
-    let low = (byte % 16) as usize;
-    let out = put_bytes(out, b"\\u00");
-    put(put(out, HEX[high]), HEX[low])
-}
-
-fn put_escaped(out: Page, byte: u8) -> Page {
-    if byte < 0x20 {
-        return put_control(out, byte);
-    }
-    let out = put_if(out, byte == b'"', b"\\");
-    let out = put_if(out, byte == b'\\', b"\\");
-    put(out, byte)
-}
-
-fn put_string(out: Page, bytes: &[u8]) -> Page {
-    let mut out = out;
-    let mut i: usize = 0;
-    while i < bytes.len() {
-        out = put_escaped(out, bytes[i]);
-        i = i + 1;
-    }
-    out
-}
-
-fn put_number(out: Page, key: &[u8], number: usize) -> Page {
-    let mut out = put_bytes(out, b",\"");
-    out = put_bytes(out, key);
-    out = put_bytes(out, b"\":");
-    put_decimal(out, number as u64)
-}
-
-fn put_places(out: Page, s: &[u8], p: Place, end: usize) -> Page {
-    let last = moved(s, p, end);
-    let mut out = put_number(out, b"line", p.line);
-    out = put_number(out, b"column", p.column);
-    out = put_number(out, b"end_line", last.line);
-    put_number(out, b"end_column", last.column)
-}
-
-// The number of its texts tells a template from a comment; the finding's own does not.
-fn code_of(number: u32) -> usize {
-    match number {
-        160 => 60,
-        161 => 61,
-        _ => number as usize,
+fn put_escaped(out: &mut Page, byte: u8) {
+    match byte {
+        ..0x20 => {
+            let _ = write!(out, "\\u00{byte:02x}");
+        }
+        b'"' | b'\\' => {
+            out.put(b'\\');
+            out.put(byte);
+        }
+        _ => out.put(byte),
     }
 }
 
-fn put_numbers(out: Page, f: Finding) -> Page {
-    let mut out = put_number(out, b"number", code_of(f.number));
-    out = put_number(out, b"start", f.start);
-    out = put_number(out, b"end", f.end);
-    out = put_number(out, b"from", f.from);
-    put_number(out, b"to", f.to)
+fn put_number(out: &mut Page, key: &str, number: usize) {
+    let _ = write!(out, ",\"{key}\":{number}");
 }
 
-fn put_file(out: Page, file: &[u8]) -> Page {
-    let mut out = put_bytes(out, b"{\"file\":\"");
-    out = put_string(out, file);
-    put(out, b'"')
+fn put_file(out: &mut Page, file: &[u8]) {
+    out.put_bytes(b"{\"file\":\"");
+    for byte in file {
+        put_escaped(out, *byte);
+    }
+    out.put(b'"');
 }
 
-fn put_code(out: Page, number: u32) -> Page {
-    let mut out = put_bytes(out, b",\"severity\":\"");
-    out = put_severity(out, severity_of(number));
-    out = put_bytes(out, b"\",\"code\":\"");
-    out = wordings::put_name(out, number);
-    put(out, b'"')
+fn put_places(out: &mut Page, first: Place, last: Place) {
+    put_number(out, "line", first.line);
+    put_number(out, "column", first.column);
+    put_number(out, "end_line", last.line);
+    put_number(out, "end_column", last.column);
 }
 
-fn put_message(out: Page, number: u32) -> Page {
-    let mut out = put_bytes(out, b",\"message\":\"");
-    out = wordings::put_what(out, number);
-    out = put_bytes(out, b"\",\"help\":\"");
-    out = wordings::put_cure(out, number);
-    put_bytes(out, b"\"}\n")
+fn put_code(out: &mut Page, matter: Matter) {
+    let _ = write!(out, ",\"severity\":\"{}\",\"code\":\"", matter.severity());
+    wordings::put_name(out, matter.texts());
+    out.put(b'"');
+}
+
+fn put_numbers(out: &mut Page, f: Finding) {
+    put_number(out, "number", f.matter.number() as usize);
+    put_number(out, "start", f.start);
+    put_number(out, "end", f.end);
+    put_number(out, "from", f.from);
+    put_number(out, "to", f.to);
 }
 
 // The store is the checker's own: what it has no room for is told in other words.
-fn put_texts(out: Page, number: u32) -> Page {
-    if number == NO_ROOM {
-        return put_bytes(
-            out,
-            b",\"message\":\"more than 1000 findings\",\"help\":\"mend these first\"}\n",
-        );
+fn put_texts(out: &mut Page, matter: Matter) {
+    if let Matter::Refusal {
+        reason: Reason::NoRoom,
+    } = matter
+    {
+        out.put_bytes(b",\"message\":\"more than 1000 findings\",\"help\":\"mend these first\"}\n");
+        return;
     }
-    put_message(out, number)
+    out.put_bytes(b",\"message\":\"");
+    wordings::put_what(out, matter.texts());
+    out.put_bytes(b"\",\"help\":\"");
+    wordings::put_cure(out, matter.texts());
+    out.put_bytes(b"\"}\n");
 }
 
-pub fn put_json(out: Page, file: &[u8], s: &[u8], p: Place, f: Finding) -> Page {
-    let mut out = put_file(out, file);
-    out = put_places(out, s, p, f.end);
-    out = put_code(out, f.number);
-    out = put_numbers(out, f);
-    put_texts(out, f.number)
+pub fn put_json(out: &mut Page, source: Source, p: Place, f: Finding) {
+    put_file(out, source.name);
+    put_places(out, p, moved(source.bytes, p, f.end));
+    put_code(out, f.matter);
+    put_numbers(out, f);
+    put_texts(out, f.matter);
 }

@@ -8,11 +8,13 @@ mod finding;
 mod ink;
 mod json;
 mod notes;
+mod scalars;
+mod source;
 mod stretch;
 mod template;
 mod told;
 
-pub use drawing::put_if;
-pub use finding::{Finding, Severity, severity_of};
+pub use finding::{Body, Finding, Matter, Severity};
 pub use json::put_json;
+pub use source::Source;
 pub use told::put_told;

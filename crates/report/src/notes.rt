@@ -1,33 +1,33 @@
 // The lines under the marks: notes, and what to do.
-use crate::drawing::{Sheet, put_edge};
-use crate::finding::Finding;
-use crate::stretch;
-use crate::stretch::{first_close, is_bare, put_named};
-use buffer::page::{Page, put, put_bytes};
+use crate::drawing::Sheet;
+use buffer::Page;
 
-pub(crate) fn put_help(out: Page, sheet: Sheet, number: u32) -> Page {
-    let mut out = put_edge(out, sheet, b'=');
-    out = put_bytes(out, b"help: ");
-    out = wordings::put_cure(out, number);
-    put(out, b'\n')
-}
-
-pub(crate) fn put_note(out: Page, sheet: Sheet, note: &[u8]) -> Page {
-    let mut out = put_edge(out, sheet, b'=');
-    out = put_bytes(out, b"note: ");
-    put_bytes(out, note)
-}
-
-pub(crate) fn put_open_end(out: Page, s: &[u8], sheet: Sheet, f: Finding) -> Page {
-    let named = stretch::name(s, first_close(), f.from, f.to, 0);
-    if is_bare(named) {
-        return put_note(
-            out,
-            sheet,
-            b"nothing closes it; nothing but white space and comments follows\n",
-        );
+impl Sheet<'_> {
+    pub(crate) fn put_help(&self, out: &mut Page) {
+        self.put_edge(out, '=');
+        out.put_bytes(b"help: ");
+        wordings::put_cure(out, self.finding.matter.texts());
+        out.put(b'\n');
     }
-    let mut out = put_note(out, sheet, b"nothing closes it: ");
-    out = put_named(out, s, named);
-    put_bytes(out, b" and all that follows is not in force\n")
+
+    pub(crate) fn put_note(&self, out: &mut Page, note: &[u8]) {
+        self.put_edge(out, '=');
+        out.put_bytes(b"note: ");
+        out.put_bytes(note);
+    }
+
+    pub(crate) fn put_open_end(&self, out: &mut Page) {
+        let f = self.finding;
+        let named = self.source.as_it_seems().name(f.from, f.to);
+        if named.is_bare() {
+            self.put_note(
+                out,
+                b"nothing closes it; nothing but white space and comments follows\n",
+            );
+            return;
+        }
+        self.put_note(out, b"nothing closes it: ");
+        named.put(out);
+        out.put_bytes(b" and all that follows is not in force\n");
+    }
 }

@@ -1,191 +1,174 @@
 // What a stretch of a source holds, in short: its first line of anything but white space and comments.
-use crate::drawing::{least, less, put_if, put_shown};
-use buffer::page::{Page, put};
-use places::{ahead, part};
-use readers::{Comments, Reading};
-use token::Read;
+ghost use Rattle.std.specs.Prelude.{◌-◌};
+ghost use Rattle.std.specs.Iterator.{at_most};
+
+use crate::drawing::put_shown;
+use crate::source::Source;
+use buffer::Page;
+use places::ahead;
+use token::Kind;
 
 const MOST: usize = 40;
 
-// From one place to before another; whether its line goes on and was cut, and whether more than white space and comments follows on later lines.
-#[derive(Clone, Copy, Drop)]
-pub(crate) struct Named {
-    pub from: usize,
-    pub to: usize,
-    pub cut: bool,
-    pub more: bool,
-}
-
-#[derive(Clone, Copy, Drop)]
-struct Last {
-    to: usize,
+// Whether its line goes on and was cut, and whether more than white space and comments follows on later lines.
+#[derive(Clone, Copy)]
+pub(crate) struct Named<'a> {
+    text: &'a [u8],
+    cut: bool,
     more: bool,
 }
 
-// A token by the number of its kind, and its end. What is refused has number 0, which no kind has.
-#[derive(Clone, Copy, Drop)]
-pub(crate) struct Found {
-    pub kind: u32,
-    pub end: usize,
+// A token of a stretch; whether it is neither white space nor a comment.
+#[derive(Clone, Copy)]
+struct Piece {
+    from: usize,
+    to: usize,
+    is_word: bool,
 }
 
-// Where the last token ends that begins on a line and is no white space and no comment, and where the line is over.
-#[derive(Clone, Copy, Drop)]
+// The tokens from one place to before another.
+#[derive(Drop)]
+struct Pieces<'a> {
+    source: Source<'a>,
+    at: usize,
+    to: usize,
+}
+
+fn is_blank(kind: Kind) -> bool {
+    matches!(
+        kind,
+        Kind::Whitespace | Kind::Comment | Kind::MultilineComment { .. }
+    )
+}
+
+impl Pieces<'_> {
+    // What is refused is a word to the stretch's end.
+    fn piece_at(&self, from: usize) -> Piece {
+        match self.source.token_at(from) {
+            None => Piece {
+                from,
+                to: self.to,
+                is_word: true,
+            },
+            Some(token) => Piece {
+                from,
+                to: token.span.end,
+                is_word: !is_blank(token.kind),
+            },
+        }
+    }
+}
+
+impl Iterator for Pieces<'_> {
+    type Item = Piece;
+
+    ghost remaining = { λ s. at_most (s.to - s.at) };
+
+    fn next(&mut self) -> Option<Piece> {
+        let from = self.at;
+        if self.to <= from {
+            return None;
+        }
+        let piece = self.piece_at(from);
+        self.at = piece.to.max(from + 1);
+        Some(piece)
+    }
+}
+
+// Where the last word ends that begins on a line, and where the line is over.
+#[derive(Clone, Copy)]
 struct Line {
     last: usize,
     over: usize,
 }
 
-// The reading in which a comment ends where it seems to.
-pub(crate) fn first_close() -> Reading {
-    Reading {
-        comments: Comments::First,
-    }
+// The last byte is no white space that a token cut short ends with.
+fn trimmed(text: &[u8]) -> &[u8] {
+    let last = text
+        .iter()
+        .rposition(|byte| *byte != b' ' && *byte != b'\t');
+    &text[..last.map_or(0, |i| i + 1)]
 }
 
-pub(crate) fn token_at(s: &[u8], reading: Reading, at: usize) -> Found {
-    let Read::Got { token } = lexer::next(s, reading, at) else {
-        return Found { kind: 0, end: at };
-    };
-    let kind = token.kind;
-    Found {
-        kind: numbers::number_of(kind),
-        end: token.span.end,
-    }
-}
-
-// White space or a comment.
-fn is_blank(kind: u32) -> bool {
-    match kind {
-        1..=4 => true,
-        _ => false,
-    }
-}
-
-// The first token of a stretch that is no white space and no comment. What is refused there is such a one.
-fn first_word(s: &[u8], reading: Reading, from: usize, to: usize) -> usize {
-    let mut p = from;
-    while p < to {
-        let token = token_at(s, reading, p);
-        if !is_blank(token.kind) {
-            return p;
+impl<'a> Source<'a> {
+    fn pieces(&self, from: usize, to: usize) -> Pieces<'a> {
+        Pieces {
+            source: *self,
+            at: from,
+            to,
         }
-        if token.end <= p {
-            return p;
-        }
-        p = token.end;
     }
-    p
-}
 
-fn word_end(token: Found, last: usize) -> usize {
-    if is_blank(token.kind) {
-        return last;
+    // The first word of a stretch, or its end.
+    fn first_word(&self, from: usize, to: usize) -> usize {
+        self.pieces(from, to)
+            .find(|piece| piece.is_word)
+            .map_or(to, |piece| piece.from)
     }
-    token.end
-}
 
-// What is refused is a word to the stretch's end.
-fn line_of(s: &[u8], reading: Reading, from: usize, to: usize) -> Line {
-    let mut p = from;
-    let mut last = from;
-    while p < to {
-        let token = token_at(s, reading, p);
-        if token.kind == 0 {
-            return Line { last: to, over: to };
+    fn line(&self, from: usize, to: usize) -> Line {
+        let mut line = Line {
+            last: from,
+            over: to,
+        };
+        for piece in self.pieces(from, to) {
+            if piece.is_word {
+                line.last = piece.to;
+            }
+            if 0 < places::feeds(self.bytes, piece.from, piece.to) {
+                line.over = piece.to;
+                break;
+            }
         }
-        if token.end <= p {
-            return Line { last, over: to };
-        }
-        last = word_end(token, last);
-        if 0 < places::feeds(s, p, token.end) {
-            return Line {
-                last,
-                over: token.end,
+        line
+    }
+
+    // What stands at a place, cut where its line ends or it grows long.
+    fn cut_short(&self, from: usize, text: &'a [u8], more: bool) -> Named<'a> {
+        let reach = ahead(self.bytes, from, MOST);
+        let shown = reach.to.saturating_sub(from);
+        if text.len() <= shown {
+            return Named {
+                text,
+                cut: false,
+                more,
             };
         }
-        p = token.end;
-    }
-    Line { last, over: to }
-}
-
-// The end of the last such token that begins on the same line.
-fn last_word(s: &[u8], reading: Reading, from: usize, to: usize) -> Last {
-    let line = line_of(s, reading, from, to);
-    Last {
-        to: line.last,
-        more: first_word(s, reading, line.over, to) < to,
-    }
-}
-
-fn cut_short(s: &[u8], from: usize, last: Last) -> Named {
-    let reach = ahead(s, from, MOST);
-    if last.to <= reach.to {
-        return Named {
-            from,
-            to: last.to,
-            cut: false,
-            more: last.more,
-        };
-    }
-    let further = ahead(s, reach.to, 1);
-    if further.count == 0 {
-        return Named {
-            from,
-            to: reach.to,
-            cut: false,
-            more: true,
-        };
-    }
-    Named {
-        from,
-        to: reach.to,
-        cut: true,
-        more: last.more,
-    }
-}
-
-// Without the white space that a token cut short may end with.
-fn trimmed(s: &[u8], from: usize, to: usize) -> usize {
-    let mut end = to;
-    while from < end {
-        let byte = text::byte_at(s, end - 1);
-        if byte != b' ' && byte != b'\t' {
-            return end;
+        let cut = 0 < ahead(self.bytes, reach.to, 1).count;
+        Named {
+            text: &text[..shown],
+            cut,
+            more: more || !cut,
         }
-        end = end - 1;
     }
-    end
+
+    pub(crate) fn name(&self, from: usize, to: usize) -> Named<'a> {
+        let first = self.first_word(from, to);
+        let line = self.line(first, to);
+        let more = self.first_word(line.over, to) < to;
+        self.cut_short(first, trimmed(self.part(first, line.last.min(to))), more)
+    }
 }
 
-// close is how many bytes the mark has that closes what runs on: the stretch ends with it, and it is not named.
-pub(crate) fn name(s: &[u8], reading: Reading, from: usize, to: usize, close: usize) -> Named {
-    let end = less(to, close);
-    let first = first_word(s, reading, from, end);
-    let last = last_word(s, reading, first, end);
-    cut_short(
-        s,
-        first,
-        Last {
-            to: trimmed(s, first, least(last.to, end)),
-            more: last.more,
-        },
-    )
-}
+impl Named<'_> {
+    // Nothing but white space and comments stands there.
+    pub(crate) fn is_bare(&self) -> bool {
+        self.text.is_empty()
+    }
 
-// Nothing but white space and comments stands before the closing mark.
-pub(crate) fn is_bare(named: Named) -> bool {
-    named.to <= named.from
-}
+    pub(crate) fn put(&self, out: &mut Page) {
+        out.put(b'`');
+        put_shown(out, self.text);
+        if self.cut {
+            out.put_bytes(b" ..");
+        }
+        out.put(b'`');
+    }
 
-pub(crate) fn put_named(out: Page, s: &[u8], named: Named) -> Page {
-    let mut out = put(out, b'`');
-    out = put_shown(out, part(s, named.from, named.to));
-    out = put_if(out, named.cut, b" ..");
-    put(out, b'`')
-}
-
-pub(crate) fn put_all_named(out: Page, s: &[u8], named: Named) -> Page {
-    let out = put_named(out, s, named);
-    put_if(out, named.more, b" and what follows it")
+    pub(crate) fn put_all(&self, out: &mut Page) {
+        self.put(out);
+        if self.more {
+            out.put_bytes(b" and what follows it");
+        }
+    }
 }

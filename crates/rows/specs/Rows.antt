@@ -1,11 +1,8 @@
 -- The rows of a token list, three words a token (kind number, start, end), their faults, and the answer of what writes or reads them (document 01, "Stored token list").
-use Rattle.std.specs.Prelude.{ℕ, zero, suc, ◌+◌, ◌*◌, ◌/◌, ◌%◌, List, [], ◌∷◌, Bool, true, leb, ltb, eqb, drop, get_or, length}
+use Rattle.std.specs.Prelude.{Err, Ok, ℕ, zero, suc, ◌+◌, ◌*◌, ◌/◌, ◌%◌, List, [], ◌∷◌, Bool, true, leb, ltb, eqb, drop, get_or, length}
+use Rattle.token.specs.declared.reason.Reason.TheVariants.{BadKind, BadLength, BadMark, Gap, NoRoom}
 use Rattle.laws.specs.Bools.{both, pick, within}
-use Rattle.rows.specs.declared.Checked.{Checked}
-use Rattle.rows.specs.declared.Checked.TheVariants.{Faulty, Good}
-use Rattle.rows.specs.declared.Stored.{Stored}
-use Rattle.rows.specs.declared.Stored.TheVariants.{Done, Refused}
-use Rattle.token.specs.Reads.{point_refusal}
+use Rattle.token.specs.Reads.{point_refusal, Tested, Counted}
 
 -- one token, as it stands in a token list or in a stored record
 pub record Row : Type 0 where
@@ -39,35 +36,35 @@ abbrev pub list_rows : List ℕ → List Row
 list_rows l = rows_of word_row row_size (length l / row_size) l
 
 -- 42: a kind outside 1 to 66. 43: a record that does not start where the one before ended, or whose end is not past its start
-unfoldable pub record_check : ℕ → ℕ → ℕ → ℕ → ℕ → Checked
+unfoldable pub record_check : ℕ → ℕ → ℕ → ℕ → ℕ → Tested
 record_check n last kind start end =
     pick (within 1 66 kind)
-    (pick (both (eqb start last) (ltb start end)) Good (Faulty (point_refusal 43 n)))
-    (Faulty (point_refusal 42 n))
+    (pick (both (eqb start last) (ltb start end)) (Ok tt) (Err (point_refusal Gap n)))
+    (Err (point_refusal BadKind n))
 
 -- 41, before these: no mark
-abbrev pub row_check : ℕ → ℕ → Row → Checked
-row_check n last r = pick r.marked (record_check n last r.kind r.start r.end) (Faulty (point_refusal 41 n))
+abbrev pub row_check : ℕ → ℕ → Row → Tested
+row_check n last r = pick r.marked (record_check n last r.kind r.start r.end) (Err (point_refusal BadMark n))
 
-abbrev pub and_then : Checked → Checked → Checked
-and_then Good next = next
-and_then (Faulty r) next = Faulty r
+abbrev pub and_then : Tested → Tested → Tested
+and_then (Ok u) next = next
+and_then (Err r) next = Err r
 
 -- record by record, from the record n on, where the one before ended at `last`
-unfoldable pub rows_check : ℕ → ℕ → List Row → Checked
-rows_check n last [] = Good
+unfoldable pub rows_check : ℕ → ℕ → List Row → Tested
+rows_check n last [] = Ok tt
 rows_check n last (r ∷ rs) = and_then (row_check n last r) (rows_check (n + 1) r.end rs)
 
 -- 40, first: a length that is no whole number of rows. The first row starts at 0
-unfoldable pub list_check : List ℕ → Checked
-list_check l = pick (eqb (length l % row_size) 0) (rows_check 0 0 (list_rows l)) (Faulty (point_refusal 40 0))
+unfoldable pub list_check : List ℕ → Tested
+list_check l = pick (eqb (length l % row_size) 0) (rows_check 0 0 (list_rows l)) (Err (point_refusal BadLength 0))
 
 -- 3, last: what is to be written does not fit
-abbrev pub stored_in : ℕ → Checked → List ℕ → Stored
-stored_in room Good out = pick (leb (length out) room) (Done (length out)) (Refused (point_refusal 3 0))
-stored_in room (Faulty r) out = Refused r
+abbrev pub stored_in : ℕ → Tested → List ℕ → Counted
+stored_in room (Ok u) out = pick (leb (length out) room) (Ok (length out)) (Err (point_refusal NoRoom 0))
+stored_in room (Err r) out = Err r
 
 -- a refusal writes nothing
-abbrev pub unless_refused : Stored → List ℕ → List ℕ
-unless_refused (Done count) out = out
-unless_refused (Refused r) out = []
+abbrev pub unless_refused : Counted → List ℕ → List ℕ
+unless_refused (Ok count) out = out
+unless_refused (Err r) out = []

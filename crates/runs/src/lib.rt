@@ -13,14 +13,12 @@ use text::{Scalar, byte_at};
 fn bare_end(s: &[u8], at: usize) -> usize
     ensures { result ≡ at + length (bare_of (drop at s.now)) }
 {
-    let mut p = at;
-    while p < s.len() {
+    for p in at..s.len() {
         if s[p] == b'\\' {
             return p;
         }
-        p = p + 1;
     }
-    p
+    at.max(s.len())
 }
 
 // The place of the first byte above 0x7f before a backslash or the end, which is at `end`.
@@ -29,14 +27,12 @@ fn low_end(s: &[u8], at: usize, end: usize) -> usize
     requires { end ≡ at + length (bare_of (drop at s.now)) }
     ensures { result ≡ at + length (ascii_of (bare_of (drop at s.now))) }
 {
-    let mut p = at;
-    while p < end {
+    for p in at..end {
         if 0x7f < s[p] {
             return p;
         }
-        p = p + 1;
     }
-    p
+    end
 }
 
 // Where the bytes end that stand for themselves.
@@ -50,7 +46,8 @@ pub fn run_end(s: &[u8], at: usize, bytes: bool) -> usize
     end
 }
 
-// The byte after the backslash at a place; 0: there is no backslash, or nothing after it.
+// The byte after the backslash at a place; 0: there is no backslash, or nothing after it. A number and no Option, here and below: these answer in a
+// register (docs/SPEED.md).
 #[tactic(auto, using(crate::proofs::Shorts::escaped_end, crate::proofs::Shorts::escaped_here, crate::proofs::Shorts::escaped_other))]
 pub fn escaped_at(s: &[u8], at: usize) -> u8
     ensures { result ≡ escaped_at s.now at }
@@ -94,7 +91,7 @@ pub fn short_limit(template: bool) -> u8
 pub fn begin_at(s: &[u8], at: usize, form: Form) -> Escape
     ensures { result ≡ begins_of form (rest s.now at) at }
 {
-    let Scalar::One { value, next } = text::scalar_at(s, at) else {
+    let Some(Scalar { value, next }) = text::scalar_at(s, at) else {
         return Escape::Skipped { next: at };
     };
     item_at(s, form, value, next)

@@ -2,7 +2,7 @@
 #![tactic(auto)]
 
 ghost use Rattle.std.specs.Prelude.{◌≡◌};
-ghost use Rattle.source.specs.Reader.{moved_of, new_of, next_scalar_of, peek2_of, peek_of, pos_of, step_at};
+ghost use Rattle.source.specs.Reader.{moved_of, new_of, next_scalar_of, peek2_of, peek_of, pos_of};
 
 use text::Scalar;
 
@@ -10,23 +10,6 @@ use text::Scalar;
 pub struct Source<'a> {
     src: &'a [u8],
     at: usize,
-}
-
-// A scalar, or none, and the place after it.
-#[derive(Drop)]
-struct Step {
-    scalar: Scalar,
-    at: usize,
-}
-
-fn step_at(s: &[u8], at: usize) -> Step
-    ensures { result ≡ step_at s.now at }
-{
-    let scalar = text::scalar_at(s, at);
-    let Scalar::One { value: _, next } = scalar else {
-        return Step { scalar, at };
-    };
-    Step { scalar, at: next }
 }
 
 impl<'a> Source<'a> {
@@ -42,23 +25,25 @@ impl<'a> Source<'a> {
         self.at
     }
 
-    pub fn peek(&self) -> Scalar
+    pub fn peek(&self) -> Option<Scalar>
         ensures { result ≡ peek_of self.now }
     {
         text::scalar_at(self.src, self.at)
     }
 
-    pub fn peek2(&self) -> Scalar
+    pub fn peek2(&self) -> Option<Scalar>
         ensures { result ≡ peek2_of self.now }
     {
         text::second_at(self.src, self.at)
     }
 
-    pub fn next(&mut self) -> Scalar
+    pub fn next(&mut self) -> Option<Scalar>
         ensures { (self.new ≡ moved_of self.old) × (result ≡ next_scalar_of self.old) }
     {
-        let step = step_at(self.src, self.at);
-        self.at = step.at;
-        step.scalar
+        let Some(Scalar { value, next }) = self.peek() else {
+            return None;
+        };
+        self.at = next;
+        Some(Scalar { value, next })
     }
 }

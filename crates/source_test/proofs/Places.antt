@@ -1,4 +1,6 @@
 -- In a well-formed source the places of scalars are the positions where no tail byte stands. Assumes nothing.
+use Rattle.std.specs.Prelude.{Err, Ok}
+use Rattle.token.specs.Reads.{Tested}
 use Prim.Native.Nat.{ℕ, suc, ◌+◌, ◌≤◌, ◌<◌}
 use mathlib.Core.Path.{◌≡◌, refl, sym, ap, ◌∙◌, subst}
 use mathlib.Core.List.{List, [], ◌∷◌}
@@ -10,8 +12,6 @@ use borrow.Author.Tests.{eq-eqb, eqb-true, le-leb, lt-leb, ltb-false, ne_eqb}
 use Rattle.laws.proofs.Cases.{never, split, split_eq, split_le}
 use Rattle.laws.specs.Bools.{pick}
 use Rattle.source_test.specs.Source.{boundary, is_place, no_place, position_test, sound_to, source_test}
-use Rattle.source_test.specs.declared.Tested.{Tested}
-use Rattle.source_test.specs.declared.Tested.TheVariants.{Sound, Unsound}
 use Rattle.text.proofs.Decode.{Step, by_first, by_step, end_first, first_at, rest_tail, step_first}
 use Rattle.text.proofs.Leads.{Whole, lead_whole}
 use Rattle.text.specs.Utf8.{after, rest, seq, tail, width}
@@ -84,21 +84,21 @@ unfolding sound_to
 boundary_place s at h = from_place s (rest s 0) 0 at refl h (omega arith)
 
 -- a test's two answers
-pub by_tested {ℓ} : {X : Type ℓ} (t : Tested) → (t ≡ Sound → X) → ((r : Refusal) → t ≡ Unsound r → X) → X
-by_tested Sound f g = f refl
-by_tested (Unsound r) f g = g r refl
+pub by_tested {ℓ} : {X : Type ℓ} (t : Tested) → (t ≡ Ok tt → X) → ((r : Refusal) → t ≡ Err r → X) → X
+by_tested (Ok tt) f g = f refl
+by_tested (Err r) f g = g r refl
 
-pub sound_inv : (s : List ℕ) → source_test s ≡ Sound → (length s ≤ 65536) × (sound_to s ≡ length s)
+pub sound_inv : (s : List ℕ) → source_test s ≡ Ok tt → (length s ≤ 65536) × (sound_to s ≡ length s)
 unfolding source_test
 sound_inv s h =
     split (ltb 65536 (length s)) (λ t. never (let z = (rw t at h) in cc))
     (λ t. split (eqb (sound_to s) (length s)) (λ u. (ltb-false _ _ t, eqb-true _ _ u)) (λ u. never (let z = (rw (t, u) at h) in cc)))
 
-pub position_other : (s : List ℕ) (at : ℕ) (t : Tested) → t ≡ source_test s → (t ≡ Sound → ⊥) → t ≡ position_test s at
+pub position_other : (s : List ℕ) (at : ℕ) (t : Tested) → t ≡ source_test s → (t ≡ Ok tt → ⊥) → t ≡ position_test s at
 unfolding position_test
-position_other s at Sound e n = absurd (n refl)
-position_other s at (Unsound r) e n = rw (← e, position_test)
+position_other s at (Ok tt) e n = absurd (n refl)
+position_other s at (Err r) e n = rw (← e, position_test)
 
-pub position_place : (s : List ℕ) (at : ℕ) → source_test s ≡ Sound → pick (boundary s at) Sound (no_place at) ≡ position_test s at
+pub position_place : (s : List ℕ) (at : ℕ) → source_test s ≡ Ok tt → pick (boundary s at) (Ok tt) (no_place at) ≡ position_test s at
 unfolding position_test
-position_place s at e = rw (e, position_test) (ap (λ (b : Bool). pick b Sound (no_place at)) (boundary_place s at (sound_inv s e).1))
+position_place s at e = rw (e, position_test) (ap (λ (b : Bool). pick b (Ok tt) (no_place at)) (boundary_place s at (sound_inv s e).1))

@@ -1,11 +1,11 @@
 -- What the code of the tests says of a block of bytes. It serves the proofs and is no rule of document 01.
-use Rattle.std.specs.Prelude.{ℕ, suc, ◌+◌, ◌≤◌, ◌<◌, ◌≡◌, List, [], get_or, length}
+use Rattle.std.specs.Prelude.{ℕ, suc, Option, Some, None, ◌+◌, ◌≤◌, ◌<◌, ◌≡◌, List, [], get_or, length}
 use Rattle.text.specs.Utf8.{Lead, after, bad, rest, seq}
 
--- how many bytes a sequence has, 0 where it is ill-formed
-abbrev pub len_of : Lead → ℕ
-len_of (seq v e) = suc e
-len_of bad = 0
+-- how many bytes a sequence has
+abbrev pub len_of : Lead → Option ℕ
+len_of (seq v e) = Some (suc e)
+len_of bad = None
 
 -- none of the n bytes from a place on is more than m
 abbrev pub AtMost : List ℕ → ℕ → ℕ → ℕ → Type 0

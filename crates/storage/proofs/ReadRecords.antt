@@ -1,24 +1,25 @@
 -- The records that the reader checks, and the tokens that it puts, word by word. Assumes nothing.
-use Prim.Native.Nat.{ℕ, zero, suc, ◌+◌, ◌-◌, ◌*◌, ◌%◌, ◌<◌}
+use Rattle.std.specs.Prelude.{Err, Ok}
+use Rattle.token.specs.declared.reason.Reason.TheVariants.{BadLength, BadMark}
+use Prim.Native.Nat.{ℕ, zero, suc, ◌*◌, ◌/◌, ◌%◌, ◌<◌}
 use mathlib.Core.Path.{◌≡◌, refl, ◌∙◌}
-use mathlib.Core.List.{List}
+use mathlib.Core.List.{List, map}
+use mathlib.Core.Logic.{inl, inr, ◌⊎◌}
 use native.Mathlib.Omega.{arith}
-use lib.Seq.{sets}
-use lib.ListN.{drop, get_or, length, set}
+use Rattle.std.proofs.lemmas.List.{get_or-take}
+use Rattle.std.specs.Simd.{first_chunks}
+use lib.ListN.{drop, get_or, length, take}
 use borrow.Author.Tests.{eq-eqb, ne_eqb}
 use Rattle.laws.proofs.Cases.{both_false, never, split_eq}
 use Rattle.rows.proofs.Puts.{Layout}
-use Rattle.rows.proofs.Rows.{Left, Walk, at_drop, first_drop, walk_stop}
+use Rattle.rows.proofs.Rows.{Local, chunk_rows}
+use Rattle.rows.specs.declared.Record.{Record}
 use Rattle.rows.specs.Rows.{Row, record_check, row_check, rows_check, rows_of}
-use Rattle.rows.specs.declared.Checked.TheVariants.{Faulty, Good}
-use Rattle.storage.specs.Reader.{byte_row, bytes_check, list_words, stored_rows, token_words, u32_at}
+use Rattle.storage.specs.Reader.{byte_row, bytes_check, list_words, stored_rows, told_by, token_words}
 use Rattle.token.specs.Reads.{point_refusal}
 
-pub left_11 : (n at : ℕ) → at < n → (n - at) % 11 ≡ 0 → Left 11 n at
-left_11 n at h w = record { room = omega arith; more = omega arith; whole = omega arith }
-
 -- the length test before the walk
-pub bytes_refused : (s : List ℕ) → (length s % 11 ≡ 0 → ⊥) → Faulty (point_refusal 40 0) ≡ bytes_check s
+pub bytes_refused : (s : List ℕ) → (length s % 11 ≡ 0 → ⊥) → Err (point_refusal BadLength 0) ≡ bytes_check s
 unfolding bytes_check
 bytes_refused s h = rw (ne_eqb (length s % 11) 0 h)
 
@@ -27,33 +28,27 @@ unfolding bytes_check
 bytes_checked s h = rw (eq-eqb (length s % 11) 0 h)
 
 -- what is accepted is whole, and sound row by row
-pub bytes_sound : (s : List ℕ) → bytes_check s ≡ Good → (length s % 11 ≡ 0) × (rows_check 0 0 (stored_rows s) ≡ Good)
+pub bytes_sound : (s : List ℕ) → bytes_check s ≡ Ok tt → (length s % 11 ≡ 0) × (rows_check 0 0 (stored_rows s) ≡ Ok tt)
 bytes_sound s h = split_eq (length s % 11) 0 (λ e. (e, bytes_checked s e ∙ h)) (λ e. never (let z = bytes_refused s e in cc))
 
--- what the records hold at a place
-pub word_drop : (s : List ℕ) (p k : ℕ) → u32_at (drop p s) k ≡ u32_at s (p + k)
-word_drop s p k =
-    let e₁ : p + (k + 1) ≡ p + k + 1 = omega arith in
-    let e₂ : p + (k + 2) ≡ p + k + 2 = omega arith in
-    let e₃ : p + (k + 3) ≡ p + k + 3 = omega arith in
-    rw (at_drop s p k, at_drop s p (k + 1), at_drop s p (k + 2), at_drop s p (k + 3), e₁, e₂, e₃)
+-- the records are those of the bytes cut into arrays
+byte_local : Local byte_row 11
+byte_local s = rw (at 0 (omega arith), at 1 (omega arith), at 2 (omega arith), at 3 (omega arith), at 4 (omega arith), at 5 (omega arith), at 6 (omega arith), at 7 (omega arith), at 8 (omega arith), at 9 (omega arith), at 10 (omega arith))
+  where
+    at : (k : ℕ) → k < 11 → get_or (take 11 s) k 0 ≡ get_or s k 0
+    at k h = get_or-take 11 s k 0 h
 
-module _ (s : List ℕ) (p n last : ℕ) where
-  pub bytes_unmarked : (get_or s p 0 ≡ 0x54 → ⊥) → Faulty (point_refusal 41 n) ≡ row_check n last (byte_row (drop p s))
-  bytes_unmarked h = rw (first_drop s p, ne_eqb (get_or s p 0) 0x54 h)
+pub records_cut : (s : List ℕ) → map byte_row (first_chunks 11 (length s / 11) s) ≡ stored_rows s
+records_cut s = chunk_rows byte_row 11 byte_local (length s / 11) s
 
-  pub bytes_unmarked_2 : (get_or s (p + 1) 0 ≡ 0x4b → ⊥) → Faulty (point_refusal 41 n) ≡ row_check n last (byte_row (drop p s))
-  bytes_unmarked_2 h = rw (at_drop s p 1, ne_eqb (get_or s (p + 1) 0) 0x4b h, both_false)
+-- what one of them says
+module _ (r : List ℕ) (n last : ℕ) where
+  pub unmarked : (get_or r 0 0 ≡ 0x54 → ⊥) ⊎ (get_or r 1 0 ≡ 0x4b → ⊥) → Err (point_refusal BadMark n) ≡ row_check n last (byte_row r)
+  unmarked (inl h) = rw (ne_eqb (get_or r 0 0) 0x54 h)
+  unmarked (inr h) = rw (ne_eqb (get_or r 1 0) 0x4b h, both_false)
 
-  pub bytes_row : (k a b : ℕ) → k ≡ get_or s (p + 2) 0 → a ≡ u32_at s (p + 3) → b ≡ u32_at s (p + 7) → get_or s p 0 ≡ 0x54 → get_or s (p + 1) 0 ≡ 0x4b
-      → record_check n last k a b ≡ row_check n last (byte_row (drop p s))
-  bytes_row k a b e f g h i = rw (e, f, g, first_drop s p, at_drop s p 1, at_drop s p 2, word_drop s p 3, word_drop s p 7, eq-eqb _ _ h, eq-eqb _ _ i)
-
--- a walk stops at a record whose second byte is not the mark's
-pub bytes_stop : (s : List ℕ) (at n last : ℕ) → Walk byte_row 11 s at n last → at < length s → length s % 11 ≡ 0
-    → (get_or s (at + 1) 0 ≡ 0x4b → ⊥) → Faulty (point_refusal 41 n) ≡ bytes_check s
-bytes_stop s at n last w l z h =
-    walk_stop byte_row 11 s at n last w (left_11 (length s) at l w.whole) _ (bytes_unmarked_2 s at n last h) _ refl ∙ bytes_checked s z
+  pub marked : get_or r 0 0 ≡ 0x54 → get_or r 1 0 ≡ 0x4b → (t : Record) → t ≡ told_by r → record_check n last t.kind t.start t.end ≡ row_check n last (byte_row r)
+  marked h i t e = rw (e, eq-eqb _ _ h, eq-eqb _ _ i)
 
 -- tokens one after the other
 pub tokens_layout : Layout list_words token_words 3
@@ -64,10 +59,3 @@ pub length_tokens : (row : List ℕ → Row) (size n : ℕ) (s : List ℕ) → l
 unfolding list_words rows_of
 length_tokens row size zero s = refl
 length_tokens row size (suc n) s = let h = length_tokens row size n (drop size s) in omega arith
-
-pub token_stores : (s out : List ℕ) (p q : ℕ) {a b c : ℕ} → a ≡ get_or s (q + 2) 0 → b ≡ u32_at s (q + 3) → c ≡ u32_at s (q + 7)
-    → set (set (set out p a) (p + 1) b) (p + 2) c ≡ sets out p (token_words (byte_row (drop q s)))
-token_stores s out p q ea eb ec =
-    let e₁ : p + 1 ≡ suc p = omega arith in
-    let e₂ : p + 2 ≡ suc (suc p) = omega arith in
-    rw (ea, eb, ec, at_drop s q 2, word_drop s q 3, word_drop s q 7, e₁, e₂)

@@ -1,4 +1,6 @@
 -- Document 01, "Stored token list": what was written is read back, and what was read is written back, exactly. Assumes nothing.
+use Rattle.std.specs.Prelude.{Err, Ok}
+use Rattle.token.specs.declared.reason.Reason.TheVariants.{BadKind, BadMark, Gap}
 use Prim.Native.Nat.{ℕ, zero, suc, ◌+◌, ◌*◌, ◌/◌, ◌%◌, ◌≤◌, ◌<◌}
 use mathlib.Core.Path.{◌≡◌, refl, sym, ap, ◌∙◌, subst}
 use mathlib.Core.List.{List, [], ◌∷◌, ◌++◌}
@@ -13,16 +15,12 @@ use Rattle.laws.specs.Bools.{both, pick, within}
 use Rattle.rows.proofs.Puts.{stored_done}
 use Rattle.rows.proofs.Rows.{list_checked, list_sound}
 use Rattle.rows.specs.Rows.{Row, and_then, list_check, list_rows, record_check, row_check, rows_check, rows_of, stored_in, unless_refused, word_row}
-use Rattle.rows.specs.declared.Checked.{Checked}
-use Rattle.rows.specs.declared.Checked.TheVariants.{Faulty, Good}
-use Rattle.rows.specs.declared.Stored.{Stored}
-use Rattle.rows.specs.declared.Stored.TheVariants.{Done}
 use Rattle.storage.proofs.ReadRecords.{bytes_checked, bytes_sound, length_tokens}
 use Rattle.storage.proofs.WrittenRecords.{length_records, record_in}
 use Rattle.storage.specs.Reader.{byte_row, bytes_check, list_words, read_by, read_of, stored_rows, token_words, u32_of}
 use Rattle.storage.specs.Storage.{Below}
 use Rattle.storage.specs.Writer.{records_of, u32_bytes, write_of, written_by}
-use Rattle.token.specs.Reads.{point_refusal}
+use Rattle.token.specs.Reads.{point_refusal, Tested, Counted}
 use Rattle.token.specs.declared.read.Refusal.{Refusal}
 
 -- a word and its bytes
@@ -50,32 +48,32 @@ bytes_word a b c d ha hb hc hd =
     λ i. e₁ i ∷ e₂ i ∷ e₃ i ∷ e₄ i ∷ []
 
 -- what a sound check says
-and_inv : (c d : Checked) → and_then c d ≡ Good → (c ≡ Good) × (d ≡ Good)
-and_inv Good d h = (refl, h)
-and_inv (Faulty r) d h = never (cc)
+and_inv : (c d : Tested) → and_then c d ≡ Ok tt → (c ≡ Ok tt) × (d ≡ Ok tt)
+and_inv (Ok tt) d h = (refl, h)
+and_inv (Err r) d h = never (cc)
 
-pick_inv : (b : Bool) (c : Checked) (r : Refusal) → pick b c (Faulty r) ≡ Good → (b ≡ true) × (c ≡ Good)
+pick_inv : (b : Bool) (c : Tested) (r : Refusal) → pick b c (Err r) ≡ Ok tt → (b ≡ true) × (c ≡ Ok tt)
 pick_inv true c r h = (refl, h)
 pick_inv false c r h = never (cc)
 
-pub rows_inv : (n last : ℕ) (r : Row) (rs : List Row) → rows_check n last (r ∷ rs) ≡ Good → (row_check n last r ≡ Good) × (rows_check (n + 1) r.end rs ≡ Good)
+pub rows_inv : (n last : ℕ) (r : Row) (rs : List Row) → rows_check n last (r ∷ rs) ≡ Ok tt → (row_check n last r ≡ Ok tt) × (rows_check (n + 1) r.end rs ≡ Ok tt)
 unfolding rows_check
 rows_inv n last r rs h = and_inv (row_check n last r) (rows_check (n + 1) r.end rs) h
 
-pub row_marked : (n last : ℕ) (r : Row) → row_check n last r ≡ Good → r.marked ≡ true
-row_marked n last r h = (pick_inv r.marked (record_check n last r.kind r.start r.end) (point_refusal 41 n) h).0
+pub row_marked : (n last : ℕ) (r : Row) → row_check n last r ≡ Ok tt → r.marked ≡ true
+row_marked n last r h = (pick_inv r.marked (record_check n last r.kind r.start r.end) (point_refusal BadMark n) h).0
 
-pub row_kind : (n last : ℕ) (r : Row) → row_check n last r ≡ Good → r.kind ≤ 66
+pub row_kind : (n last : ℕ) (r : Row) → row_check n last r ≡ Ok tt → r.kind ≤ 66
 unfolding record_check
 row_kind n last r h =
-    let c = (pick_inv r.marked (record_check n last r.kind r.start r.end) (point_refusal 41 n) h).1 in
-    (within_inv 1 66 r.kind (pick_inv (within 1 66 r.kind) (pick (both (eqb r.start last) (ltb r.start r.end)) Good (Faulty (point_refusal 43 n))) (point_refusal 42 n) c).0).1
+    let c = (pick_inv r.marked (record_check n last r.kind r.start r.end) (point_refusal BadMark n) h).1 in
+    (within_inv 1 66 r.kind (pick_inv (within 1 66 r.kind) (pick (both (eqb r.start last) (ltb r.start r.end)) (Ok tt) (Err (point_refusal Gap n))) (point_refusal BadKind n) c).0).1
 
 row_same : (r q : Row) → r.marked ≡ q.marked → r.kind ≡ q.kind → r.start ≡ q.start → r.end ≡ q.end → r ≡ q
 row_same r q m k s e = λ i. record { marked = m i; kind = k i; start = s i; end = e i }
 
 -- the words of sound rows are these rows again
-rows_tokens : (n last : ℕ) (rs : List Row) → rows_check n last rs ≡ Good → rows_of word_row 3 (length rs) (list_words rs) ≡ rs
+rows_tokens : (n last : ℕ) (rs : List Row) → rows_check n last rs ≡ Ok tt → rows_of word_row 3 (length rs) (list_words rs) ≡ rs
 unfolding rows_of list_words
 rows_tokens n last [] h = refl
 rows_tokens n last (r ∷ rs) h =
@@ -90,7 +88,7 @@ Words [] = Unit {0}
 Words (r ∷ rs) = (r.start < 4294967296) × (r.end < 4294967296) × Words rs
 
 -- and so are their bytes
-rows_records : (n last : ℕ) (rs : List Row) → rows_check n last rs ≡ Good → Words rs → rows_of byte_row 11 (length rs) (records_of rs) ≡ rs
+rows_records : (n last : ℕ) (rs : List Row) → rows_check n last rs ≡ Ok tt → Words rs → rows_of byte_row 11 (length rs) (records_of rs) ≡ rs
 unfolding rows_of records_of Words
 rows_records n last [] h w = refl
 rows_records n last (r ∷ rs) h w =
@@ -122,7 +120,7 @@ list_joined (suc n) l h =
     ap (λ (t : List ℕ). get_or l 0 0 ∷ get_or l 1 0 ∷ get_or l 2 0 ∷ t) (list_joined n (drop 3 l) (length-drop 3 l ∙ omega arith))
     ∙ sym (cons_next l _ 0 (omega arith) (cons_next l _ 1 (omega arith) (cons_next l _ 2 (omega arith) refl)))
 
-bytes_joined : (k last n : ℕ) (s : List ℕ) → length s ≡ n * 11 → Below 256 s → rows_check k last (rows_of byte_row 11 n s) ≡ Good → records_of (rows_of byte_row 11 n s) ≡ s
+bytes_joined : (k last n : ℕ) (s : List ℕ) → length s ≡ n * 11 → Below 256 s → rows_check k last (rows_of byte_row 11 n s) ≡ Ok tt → records_of (rows_of byte_row 11 n s) ≡ s
 unfolding rows_of records_of
 bytes_joined k last zero [] h b c = refl
 bytes_joined k last zero (a ∷ s) h b c = absurd (omega arith)
@@ -148,7 +146,7 @@ length_rows row size zero s = refl
 length_rows row size (suc n) s = ap suc (length_rows row size n (drop size s))
 
 -- the records of an accepted list are accepted, and are that list
-pub list_round : (l : List ℕ) → Below 4294967296 l → list_check l ≡ Good → (bytes_check (records_of (list_rows l)) ≡ Good) × (list_words (stored_rows (records_of (list_rows l))) ≡ l)
+pub list_round : (l : List ℕ) → Below 4294967296 l → list_check l ≡ Ok tt → (bytes_check (records_of (list_rows l)) ≡ Ok tt) × (list_words (stored_rows (records_of (list_rows l))) ≡ l)
 list_round l b h =
     let v = list_sound l h in
     let n = length l / 3 in
@@ -161,7 +159,7 @@ list_round l b h =
     (sym (bytes_checked out z) ∙ ap (rows_check 0 0) same ∙ v.1, ap list_words same ∙ list_joined n l (omega arith))
 
 -- the token list of accepted bytes is accepted, and its records are these bytes
-pub bytes_round : (s : List ℕ) → Below 256 s → bytes_check s ≡ Good → (list_check (list_words (stored_rows s)) ≡ Good) × (records_of (list_rows (list_words (stored_rows s))) ≡ s)
+pub bytes_round : (s : List ℕ) → Below 256 s → bytes_check s ≡ Ok tt → (list_check (list_words (stored_rows s)) ≡ Ok tt) × (records_of (list_rows (list_words (stored_rows s))) ≡ s)
 bytes_round s b h =
     let v = bytes_sound s h in
     let n = length s / 11 in
@@ -174,30 +172,30 @@ bytes_round s b h =
     (sym (list_checked out z) ∙ ap (rows_check 0 0) same ∙ v.1, ap records_of same ∙ bytes_joined 0 0 n s (omega arith) b v.1)
 
 -- what was done was sound, and fitted
-done_inv : (room : ℕ) (c : Checked) (out : List ℕ) (count : ℕ) → stored_in room c out ≡ Done count → (c ≡ Good) × (unless_refused (stored_in room c out) out ≡ out)
-done_inv room Good out count h = (refl, ap (λ (x : Stored). unless_refused x out) h)
-done_inv room (Faulty r) out count h = never (cc)
+done_inv : (room : ℕ) (c : Tested) (out : List ℕ) (count : ℕ) → stored_in room c out ≡ Ok count → (c ≡ Ok tt) × (unless_refused (stored_in room c out) out ≡ out)
+done_inv room (Ok tt) out count h = (refl, ap (λ (x : Counted). unless_refused x out) h)
+done_inv room (Err r) out count h = never (cc)
 
 -- document 01: a list that was written is read back, word for word
-pub store_round : (l : List ℕ) (room room' count : ℕ) → Below 4294967296 l → write_of l room ≡ Done count → length l ≤ room'
-    → (read_of (written_by l room) room' ≡ Done (length l)) × (read_by (written_by l room) room' ≡ l)
+pub store_round : (l : List ℕ) (room room' count : ℕ) → Below 4294967296 l → write_of l room ≡ Ok count → length l ≤ room'
+    → (read_of (written_by l room) room' ≡ Ok (length l)) × (read_by (written_by l room) room' ≡ l)
 unfolding write_of written_by read_of read_by
 store_round l room room' count b h f =
     let d = done_inv room (list_check l) (records_of (list_rows l)) count h in
     let r = list_round l b d.0 in
     let s = stored_done room' (bytes_check (records_of (list_rows l))) (list_words (stored_rows (records_of (list_rows l)))) r.0 (subst (λ (x : List ℕ). length x ≤ room') (sym r.1) f) in (
-      ap (λ (x : List ℕ). stored_in room' (bytes_check x) (list_words (stored_rows x))) d.1 ∙ sym s.0 ∙ ap (λ (x : List ℕ). Done (length x)) r.1,
+      ap (λ (x : List ℕ). stored_in room' (bytes_check x) (list_words (stored_rows x))) d.1 ∙ sym s.0 ∙ ap (λ (x : List ℕ). Ok (length x)) r.1,
       ap (λ (x : List ℕ). unless_refused (stored_in room' (bytes_check x) (list_words (stored_rows x))) (list_words (stored_rows x))) d.1 ∙ sym s.1 ∙ r.1,
     )
 
 -- and bytes that were read are written back, byte for byte
-pub store_round_bytes : (s : List ℕ) (room room' count : ℕ) → Below 256 s → read_of s room ≡ Done count → length s ≤ room'
-    → (write_of (read_by s room) room' ≡ Done (length s)) × (written_by (read_by s room) room' ≡ s)
+pub store_round_bytes : (s : List ℕ) (room room' count : ℕ) → Below 256 s → read_of s room ≡ Ok count → length s ≤ room'
+    → (write_of (read_by s room) room' ≡ Ok (length s)) × (written_by (read_by s room) room' ≡ s)
 unfolding write_of written_by read_of read_by
 store_round_bytes s room room' count b h f =
     let d = done_inv room (bytes_check s) (list_words (stored_rows s)) count h in
     let r = bytes_round s b d.0 in
     let w = stored_done room' (list_check (list_words (stored_rows s))) (records_of (list_rows (list_words (stored_rows s)))) r.0 (subst (λ (x : List ℕ). length x ≤ room') (sym r.1) f) in (
-      ap (λ (x : List ℕ). stored_in room' (list_check x) (records_of (list_rows x))) d.1 ∙ sym w.0 ∙ ap (λ (x : List ℕ). Done (length x)) r.1,
+      ap (λ (x : List ℕ). stored_in room' (list_check x) (records_of (list_rows x))) d.1 ∙ sym w.0 ∙ ap (λ (x : List ℕ). Ok (length x)) r.1,
       ap (λ (x : List ℕ). unless_refused (stored_in room' (list_check x) (records_of (list_rows x))) (records_of (list_rows x))) d.1 ∙ sym w.1 ∙ r.1,
     )

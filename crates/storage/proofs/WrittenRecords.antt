@@ -1,15 +1,14 @@
 -- The records that the writer puts, byte by byte. Assumes nothing.
-use Prim.Native.Nat.{ℕ, zero, suc, ◌+◌, ◌*◌, ◌/◌, ◌%◌}
-use mathlib.Core.Path.{◌≡◌, refl, ap, ◌∙◌}
-use mathlib.Core.List.{List}
+use Prim.Native.Nat.{ℕ, zero, suc, ◌*◌, ◌/◌}
+use mathlib.Core.Path.{◌≡◌, refl}
+use mathlib.Core.List.{List, map}
 use native.Mathlib.Omega.{arith}
-use lib.Seq.{sets}
-use lib.ListN.{drop, get_or, length, set}
-use Rattle.laws.proofs.Sets.{sets_append}
+use lib.ListN.{drop, length}
+use Rattle.std.specs.Simd.{first_chunks}
 use Rattle.rows.proofs.Puts.{Layout}
-use Rattle.rows.proofs.Rows.{at_drop, first_drop}
-use Rattle.rows.specs.Rows.{Row, rows_of, word_row}
-use Rattle.storage.specs.Writer.{record_of, records_of, u32_bytes}
+use Rattle.rows.proofs.Rows.{chunk_rows, word_local}
+use Rattle.rows.specs.Rows.{Row, list_rows, rows_of, word_row}
+use Rattle.storage.specs.Writer.{record_of, records_of}
 
 abbrev pub record_in : Row → List ℕ
 record_in r = record_of r.kind r.start r.end
@@ -23,25 +22,6 @@ unfolding records_of rows_of
 length_records row size zero s = refl
 length_records row size (suc n) s = let h = length_records row size n (drop size s) in omega arith
 
-pub list_record : (s : List ℕ) (p : ℕ) → record_of (get_or s p 0) (get_or s (p + 1) 0) (get_or s (p + 2) 0) ≡ record_in (word_row (drop p s))
-list_record s p = rw (first_drop s p, at_drop s p 1, at_drop s p 2)
-
--- stores one after the other
-pub word_stores : (out : List ℕ) (p w : ℕ) {a b c d : ℕ} → a ≡ w % 256 → b ≡ w / 256 % 256 → c ≡ w / 65536 % 256 → d ≡ w / 16777216 % 256
-    → set (set (set (set out p a) (p + 1) b) (p + 2) c) (p + 3) d ≡ sets out p (u32_bytes w)
-word_stores out p w ea eb ec ed =
-    let e₁ : p + 1 ≡ suc p = omega arith in
-    let e₂ : p + 2 ≡ suc (suc p) = omega arith in
-    let e₃ : p + 3 ≡ suc (suc (suc p)) = omega arith in
-    rw (ea, eb, ec, ed, e₁, e₂, e₃)
-
-pub record_stores : (out : List ℕ) (p kind start end : ℕ) {a : ℕ} (out₁ out₂ : List ℕ) → a ≡ kind % 256
-    → out₁ ≡ sets (set (set (set out p 0x54) (p + 1) 0x4b) (p + 2) a) (p + 3) (u32_bytes start) → out₂ ≡ sets out₁ (p + 7) (u32_bytes end)
-    → out₂ ≡ sets out p (record_of kind start end)
-record_stores out p kind start end out₁ out₂ ea h k =
-    let e₁ : p + 1 ≡ suc p = omega arith in
-    let e₂ : p + 2 ≡ suc (suc p) = omega arith in
-    let e₃ : p + 3 ≡ suc (suc (suc p)) = omega arith in
-    k ∙ ap (λ (l : List ℕ). sets l (p + 7) (u32_bytes end)) h
-    ∙ sets_append (set (set (set out p 0x54) (p + 1) 0x4b) (p + 2) _) (u32_bytes start) (u32_bytes end) (p + 3) (p + 7) (omega arith)
-    ∙ rw (ea, e₁, e₂, e₃)
+-- the rows of a list cut into arrays
+pub rows_cut : (l : List ℕ) → map word_row (first_chunks 3 (length l / 3) l) ≡ list_rows l
+rows_cut l = chunk_rows word_row 3 word_local (length l / 3) l

@@ -1,7 +1,7 @@
 -- The bytes of a token list, 11 a record (document 01, "Stored token list"), and the writer's answer.
+use Rattle.token.specs.Reads.{Counted}
 use Rattle.std.specs.Prelude.{ℕ, ◌/◌, ◌%◌, List, [], ◌∷◌, ◌++◌}
 use Rattle.rows.specs.Rows.{Row, list_check, list_rows, stored_in, unless_refused}
-use Rattle.rows.specs.declared.Stored.{Stored}
 
 -- a word as four bytes, the lowest first
 abbrev pub u32_bytes : ℕ → List ℕ
@@ -16,7 +16,7 @@ records_of [] = []
 records_of (r ∷ rs) = record_of r.kind r.start r.end ++ records_of rs
 
 -- the writer's answer to a token list, and the bytes that it writes
-unfoldable pub write_of : List ℕ → ℕ → Stored
+unfoldable pub write_of : List ℕ → ℕ → Counted
 write_of l room = stored_in room (list_check l) (records_of (list_rows l))
 
 unfoldable pub written_by : List ℕ → ℕ → List ℕ

@@ -2,92 +2,65 @@
 // It answers the first refusal and then writes nothing; later words keep their content.
 ghost use Rattle.std.specs.Prelude.{◌+◌, ◌%◌, ◌≤◌, ◌≡◌, length};
 ghost use Rattle.std.proofs.lemmas.List.Edits.{sets};
-ghost use Rattle.storage.specs.Reader.{bytes_check, list_words, read_by, read_of, stored_rows, u32_at, u32_of};
+ghost use Rattle.storage.specs.Reader.{bytes_check, list_words, read_by, read_of, stored_rows, told_by};
 
-use rows::{Checked, ROW, Stored, check_record, faulty};
-use token::refusal::{BAD_LENGTH, BAD_MARK};
+use crate::{MARK_FIRST, MARK_SECOND, RECORD};
+use rows::{ROW, Record, faulty};
+use token::{Reason, Refusal};
 
-fn word(byte: u8) -> u32
-    ensures { result ≡ byte }
+// What a record says, its numbers with their lowest bytes first. Its mark is not looked at.
+fn record_in(bytes: &[u8; RECORD]) -> Record
+    ensures { result ≡ told_by bytes.now }
 {
-    byte as u32
+    let [_, _, kind, a, b, c, d, e, f, g, h] = *bytes;
+    Record {
+        kind: u32::from(kind),
+        start: u32::from_le_bytes([a, b, c, d]),
+        end: u32::from_le_bytes([e, f, g, h]),
+    }
 }
 
-// A word of four bytes, the lowest first.
-fn word_of(a: u8, b: u8, c: u8, d: u8) -> u32
-    ensures { result ≡ u32_of a b c d }
-{
-    a as u32 + b as u32 * 256 + c as u32 * 65536 + d as u32 * 16777216
-}
-
-fn word_at(bytes: &[u8], at: usize) -> u32
-    requires { at + 4 ≤ length bytes.now }
-    ensures { result ≡ u32_at bytes.now at }
-{
-    word_of(bytes[at], bytes[at + 1], bytes[at + 2], bytes[at + 3])
-}
-
-#[tactic(auto, using(crate::proofs::ReadRecords::bytes_stop))]
-fn check_bytes(bytes: &[u8]) -> Checked
+// As `rows::check_list`, but that a record has a mark, and stands in bytes.
+fn check_bytes(bytes: &[u8]) -> Result<(), Refusal>
     ensures { result ≡ bytes_check bytes.now }
 {
-    if bytes.len() % 11 != 0 {
-        return faulty(BAD_LENGTH, 0);
+    let (records, rest) = bytes.as_chunks::<RECORD>();
+    if !rest.is_empty() {
+        return faulty(Reason::BadLength, 0);
     }
-    let mut at: usize = 0;
-    let mut n: usize = 0;
     let mut last: u32 = 0;
-    while at < bytes.len() {
-        if bytes[at] != 0x54 {
-            return faulty(BAD_MARK, n);
+    for (n, bytes) in records.iter().enumerate() {
+        if bytes[0] != MARK_FIRST || bytes[1] != MARK_SECOND {
+            return faulty(Reason::BadMark, n);
         }
-        if bytes[at + 1] != 0x4b {
-            return faulty(BAD_MARK, n);
-        }
-        let start = word_at(bytes, at + 3);
-        let end = word_at(bytes, at + 7);
-        let checked = check_record(n, last, word(bytes[at + 2]), start, end);
-        let Checked::Good = checked else {
-            return checked;
-        };
-        at = at + 11;
-        n = n + 1;
-        last = end;
+        let record = record_in(bytes);
+        record.check(n, last)?;
+        last = record.end;
     }
-    Checked::Good
+    Ok(())
 }
 
 fn put_words(bytes: &[u8], out: &mut [u32])
     requires { (length bytes.now % 11 ≡ 0) × (length (list_words (stored_rows bytes.now)) ≤ length out.old) }
     ensures { out.new ≡ sets out.old 0 (list_words (stored_rows bytes.now)) }
 {
-    let mut from: usize = 0;
-    let mut at: usize = 0;
-    while from < bytes.len() {
-        out[at] = word(bytes[from + 2]);
-        out[at + 1] = word_at(bytes, from + 3);
-        out[at + 2] = word_at(bytes, from + 7);
-        from = from + 11;
-        at = at + ROW;
+    let (records, _) = bytes.as_chunks::<RECORD>();
+    for (n, bytes) in records.iter().enumerate() {
+        let Record { kind, start, end } = record_in(bytes);
+        let at = n * ROW;
+        out[at..at + ROW].copy_from_slice(&[kind, start, end]);
     }
 }
 
-pub fn read(bytes: &[u8], out: &mut [u32]) -> Stored
+pub fn read(bytes: &[u8], out: &mut [u32]) -> Result<usize, Refusal>
     ensures { (result ≡ read_of bytes.now (length out.old))
         × (out.new ≡ sets out.old 0 (read_by bytes.now (length out.old))) }
 {
-    match check_bytes(bytes) {
-        Checked::Faulty { refusal } => Stored::Refused { refusal },
-        Checked::Good => {
-            let records = bytes.len() / 11;
-            if out.len() / ROW < records {
-                let refusal = token::point(token::refusal::NO_ROOM, 0);
-                return Stored::Refused { refusal };
-            }
-            put_words(bytes, out);
-            Stored::Done {
-                count: records * ROW,
-            }
-        }
+    check_bytes(bytes)?;
+    let records = bytes.len() / RECORD;
+    if out.len() / ROW < records {
+        return Err(token::point(Reason::NoRoom, 0));
     }
+    put_words(bytes, out);
+    Ok(records * ROW)
 }

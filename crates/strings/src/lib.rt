@@ -2,48 +2,31 @@
 #![tactic(auto)]
 
 ghost use Rattle.std.specs.Prelude.{◌≡◌};
-ghost use Rattle.readers.specs.Readers.{byte_of, str_kind, str_number, str_of};
+ghost use Rattle.readers.specs.Readers.{byte_of, str_kind, str_of, str_reason};
 ghost use Rattle.text.specs.Utf8.{rest, width};
 
 use text::Scalar;
 use text::character::{BACKSLASH, DOUBLE_QUOTE, QUOTE};
-use token::refusal::{
-    EXPECTED_BYTE_CLOSE, EXPECTED_ESCAPE, UNTERMINATED_BYTE_LIT, UNTERMINATED_BYTE_STR_LIT,
-    UNTERMINATED_STR_LIT,
-};
-use token::{Kind, Read};
+use token::{Kind, Reason, Refusal, Token};
 
-pub fn next_lit_byte(s: &[u8], start: usize, at: usize) -> Read
+pub fn next_lit_byte(s: &[u8], start: usize, at: usize) -> Result<Token, Refusal>
     ensures { result ≡ byte_of width start (rest s.now at) at }
 {
-    let Scalar::One {
-        value: _,
-        next: first,
-    } = text::scalar_at(s, at)
-    else {
-        return token::refused(EXPECTED_BYTE_CLOSE, start, at, at);
+    let Some(Scalar { next: first, .. }) = text::scalar_at(s, at) else {
+        return token::refused(Reason::ExpectedByteClose, start, at, at);
     };
     let mut p = first;
     loop {
-        let Scalar::One { value, next } = text::scalar_at(s, p) else {
-            return token::refused(EXPECTED_BYTE_CLOSE, start, p, p);
+        let Some(Scalar { value, next }) = text::scalar_at(s, p) else {
+            return token::refused(Reason::ExpectedByteClose, start, p, p);
         };
         if value == BACKSLASH {
-            let Scalar::One {
-                value: _,
-                next: after,
-            } = text::scalar_at(s, next)
-            else {
-                return token::refused(EXPECTED_ESCAPE, p, next, next);
-            };
-            p = after;
+            p = readers::escaped_end(s, p, next)?;
+        } else if value == QUOTE {
+            return token::got(Kind::Byte, start, next);
+        } else if classes::is_control(value) {
+            return token::refused(Reason::UnterminatedByteLit, start, next, next);
         } else {
-            if value == QUOTE {
-                return token::got(Kind::Byte, start, next);
-            }
-            if classes::is_control(value) {
-                return token::refused(UNTERMINATED_BYTE_LIT, start, next, next);
-            }
             p = next;
         }
     }
@@ -60,38 +43,31 @@ fn str_kind(bytes: bool, escaped: bool) -> Kind
     }
 }
 
-fn str_number(bytes: bool) -> u32
-    ensures { result ≡ str_number bytes }
+fn str_reason(bytes: bool) -> Reason
+    ensures { result ≡ str_reason bytes }
 {
     if bytes {
-        UNTERMINATED_BYTE_STR_LIT
+        Reason::UnterminatedByteStrLit
     } else {
-        UNTERMINATED_STR_LIT
+        Reason::UnterminatedStrLit
     }
 }
 
-pub fn next_str(s: &[u8], bytes: bool, start: usize, at: usize) -> Read
+pub fn next_str(s: &[u8], bytes: bool, start: usize, at: usize) -> Result<Token, Refusal>
     ensures { result ≡ str_of width bytes start (rest s.now at) at }
 {
     let mut p = at;
     let mut escaped = false;
     loop {
-        let Scalar::One { value, next } = text::scalar_at(s, p) else {
-            return token::refused(str_number(bytes), start, p, p);
+        let Some(Scalar { value, next }) = text::scalar_at(s, p) else {
+            return token::refused(str_reason(bytes), start, p, p);
         };
         if value == DOUBLE_QUOTE {
             return token::got(str_kind(bytes, escaped), start, next);
         }
         if value == BACKSLASH {
-            let Scalar::One {
-                value: _,
-                next: after,
-            } = text::scalar_at(s, next)
-            else {
-                return token::refused(EXPECTED_ESCAPE, p, next, next);
-            };
+            p = readers::escaped_end(s, p, next)?;
             escaped = true;
-            p = after;
         } else {
             p = next;
         }

@@ -1,4 +1,5 @@
 -- A token and a template stop at a scalar's place, and go past the scalar that they start with. Assumes nothing.
+use Rattle.std.specs.Prelude.{Err, Ok}
 use Rattle.std.proofs.Common.{◌≡◌, ℕ, zero, suc, ◌+◌, true, false, eqb, ltb, List, [], ◌∷◌, refl, subst, inl, inr, arith, le-ltb, lt-ltb}
 use Rattle.choice.proofs.Choice.{first-cases}
 use Rattle.choice.specs.Rule.{Deep, behind_one, first_of, token_with}
@@ -11,10 +12,8 @@ use Rattle.readers.specs.declared.reading.Reading.{Reading}
 use Rattle.templates.specs.Body.{down, go_on, template_body, template_of, template_turn, token_of, too_deep, up}
 use Rattle.text.proofs.Decode.{rest_tail, width_pos}
 use Rattle.text.specs.Utf8.{rest, width}
-use Rattle.token.specs.Reads.{reached_of}
+use Rattle.token.specs.Reads.{reached_of, Read, number_in}
 use Rattle.token.specs.declared.kind.Kind.TheVariants.{Comment}
-use Rattle.token.specs.declared.read.Read.{Read}
-use Rattle.token.specs.declared.read.Read.TheVariants.{Got, Refused}
 
 module _ (R : Rules) where
   abbrev pub DeepLands : Deep → Type 0
@@ -56,8 +55,8 @@ module _ (R : Rules) where
         (λ j. split (eqb v 92) (λ k. rw (h, i, j, k, template_turn) (inner (next cs p) (n cs p))) (λ k. rw (h, i, j, k, template_turn) (g 0 l)))))
       where
         inner : (r : Read) → Lands R cs p (reached_of r) → Lands R cs p (reached_of (go_on a r (λ t. go t l)))
-        inner (Got k) h = g k.span.end l
-        inner (Refused r) h = split (eqb r.number 19) (λ e. rw (e, reached_of) h) (λ e. rw (e, reached_of) (g r.reached l))
+        inner (Ok k) h = g k.span.end l
+        inner (Err r) h = split (eqb (number_in r) 19) (λ e. rw (e, reached_of) h) (λ e. rw (e, reached_of) (g r.reached l))
 
     pub body_lands : (t : ℕ) (cs : List ℕ) (p l : ℕ) → Lands R cs p (reached_of (template_body R next a t cs p l))
     unfolding template_body

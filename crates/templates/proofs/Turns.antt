@@ -1,4 +1,6 @@
 -- One step of the token reader and of the template reader, at a place of a source. Assumes nothing.
+use Rattle.std.specs.Prelude.{Err, Ok}
+use Rattle.token.specs.declared.reason.Reason.TheVariants.{TooDeep}
 use Rattle.std.proofs.Common.{◌≡◌, ℕ, zero, suc, ◌+◌, ◌-◌, ◌%◌, ◌<◌, ◌≤◌, true, false, List, [], length, sym, refl, ap, ◌∙◌, subst, arith, le-ltb, eq-eqb, ne_eqb}
 use Rattle.choice.proofs.Choice.{first_deep, first_plain}
 use Rattle.choice.specs.Rule.{first_of, no_template, token_with}
@@ -9,14 +11,12 @@ use Rattle.templates.proofs.Landing.{body_skip, deep_of, token_lands, with_deep}
 use Rattle.templates.specs.Body.{down, go_on, template_body, template_of, template_turn, token_of, up}
 use Rattle.text.proofs.Decode.{Step}
 use Rattle.text.specs.Utf8.{rest}
-use Rattle.token.specs.Reads.{got_of, reached_of, refused_of}
+use Rattle.token.specs.Reads.{got_of, reached_of, refused_of, Read, number_in}
 use Rattle.token.specs.declared.kind.Kind.TheVariants.{Eof, Template}
-use Rattle.token.specs.declared.read.Read.{Read}
-use Rattle.token.specs.declared.read.Read.TheVariants.{Got, Refused}
 use Rattle.token.specs.declared.read.Refusal.{Refusal}
 use Rattle.token.specs.declared.read.Token.{Token}
 
-pub deep_none : (g : Reading) (d a : ℕ) (cs : List ℕ) (p : ℕ) → d ≡ 0 → refused_of 19 a p p ≡ deep_of (rules_of g) d a cs p
+pub deep_none : (g : Reading) (d a : ℕ) (cs : List ℕ) (p : ℕ) → d ≡ 0 → refused_of TooDeep a p p ≡ deep_of (rules_of g) d a cs p
 unfolding deep_of
 deep_none g zero a cs p h = refl
 deep_none g (suc d) a cs p h = absurd (omega arith)
@@ -41,10 +41,6 @@ module _ (g : Reading) (d : ℕ) (s : List ℕ) (p : ℕ) where
 
     pub token_deep : v ≡ 96 → deep_of (rules_of g) d p (rest s n) n ≡ token_of (rules_of g) d (rest s p) p
     token_deep h = first_deep g (deep_of (rules_of g) d) v p (rest s n) n h ∙ token_turn
-
--- one less, from what the wrapping subtraction promises
-pub down_is : (l r : ℕ) → l < 4294967296 → r < 4294967296 → (r + 1) % 4294967296 ≡ l → r ≡ down l
-down_is l r h k e = omega arith
 
 module _ (g : Reading) (next : List ℕ → ℕ → Read) (a : ℕ) (s : List ℕ) (p l : ℕ) where
   pub body_end : rest s p ≡ [] → got_of (Template false) a p ≡ template_body (rules_of g) next a 0 (rest s p) p l
@@ -97,11 +93,11 @@ module _ (g : Reading) (d a : ℕ) (s : List ℕ) (p l v n : ℕ) (t : Step s p 
   inner_go : (q : ℕ) → reached_of r ≡ q → template_body (rules_of g) (token_of (rules_of g) d) a q (rest s n) n l ≡ template_body (rules_of g) (token_of (rules_of g) d) a 0 (rest s q) q l
   inner_go q e = body_skip g (token_of (rules_of g) d) a s (rest s n) n q l refl (subst (λ (x : ℕ). Lands (rules_of g) (rest s n) n x) e inner_lands)
 
-  pub after_got : (k : Token) → r ≡ Got k → template_body (rules_of g) (token_of (rules_of g) d) a 0 (rest s k.span.end) k.span.end l ≡ template_body (rules_of g) (token_of (rules_of g) d) a 0 (rest s p) p l
+  pub after_got : (k : Token) → r ≡ Ok k → template_body (rules_of g) (token_of (rules_of g) d) a 0 (rest s k.span.end) k.span.end l ≡ template_body (rules_of g) (token_of (rules_of g) d) a 0 (rest s p) p l
   after_got k e = sym (inner_go k.span.end (rw e)) ∙ (rw e at inner_on)
 
-  pub after_refused : (k : Refusal) → r ≡ Refused k → (k.number ≡ 19 → ⊥) → template_body (rules_of g) (token_of (rules_of g) d) a 0 (rest s k.reached) k.reached l ≡ template_body (rules_of g) (token_of (rules_of g) d) a 0 (rest s p) p l
-  after_refused k e f = sym (inner_go k.reached (rw e)) ∙ (rw (e, ne_eqb k.number 19 f, go_on) at inner_on)
+  pub after_refused : (k : Refusal) → r ≡ Err k → (number_in k ≡ 19 → ⊥) → template_body (rules_of g) (token_of (rules_of g) d) a 0 (rest s k.reached) k.reached l ≡ template_body (rules_of g) (token_of (rules_of g) d) a 0 (rest s p) p l
+  after_refused k e f = sym (inner_go k.reached (rw e)) ∙ (rw (e, ne_eqb (number_in k) 19 f, go_on) at inner_on)
 
-  pub after_deep : (k : Refusal) → r ≡ Refused k → k.number ≡ 19 → refused_of 19 a k.span.end k.reached ≡ template_body (rules_of g) (token_of (rules_of g) d) a 0 (rest s p) p l
-  after_deep k e f = rw (e, eq-eqb k.number 19 f, go_on) at inner_on
+  pub after_deep : (k : Refusal) → r ≡ Err k → number_in k ≡ 19 → refused_of TooDeep a k.span.end k.reached ≡ template_body (rules_of g) (token_of (rules_of g) d) a 0 (rest s p) p l
+  after_deep k e f = rw (e, eq-eqb (number_in k) 19 f, go_on) at inner_on

@@ -1,12 +1,11 @@
 -- The template, whose body's backslashes read whole tokens, and the token with a bound on how deep templates go.
-use Rattle.std.specs.Prelude.{ℕ, zero, suc, ◌+◌, ◌%◌, true, false, List, [], ◌∷◌, ◌==◌, nat_lt}
+use Rattle.std.specs.Prelude.{Err, Ok, ℕ, zero, suc, ◌+◌, ◌%◌, true, false, List, [], ◌∷◌, ◌==◌, nat_lt}
+use Rattle.token.specs.declared.reason.Reason.TheVariants.{TooDeep}
 use Rattle.choice.specs.Rule.{Deep, token_with}
 use Rattle.readers.specs.Rules.{Rules}
 use Rattle.text.specs.Characters.{backslash, backtick, close_brace, open_brace}
-use Rattle.token.specs.Reads.{got_of, refused_of}
+use Rattle.token.specs.Reads.{got_of, refused_of, Read, number_in}
 use Rattle.token.specs.declared.kind.Kind.TheVariants.{Template}
-use Rattle.token.specs.declared.read.Read.{Read}
-use Rattle.token.specs.declared.read.Read.TheVariants.{Got, Refused}
 
 -- a brace level counts as a u32 that wraps
 abbrev pub up : ℕ → ℕ
@@ -17,8 +16,8 @@ down l = (l + 4294967295) % 4294967296
 
 -- after a token that a backslash read: on from the place that it reached, its refusal dropped unless that is 19
 abbrev pub go_on : ℕ → Read → (ℕ → Read) → Read
-go_on a (Got k) go = go k.span.end
-go_on a (Refused r) go = elim (r.number == 19) [ true ↦ refused_of 19 a r.span.end r.reached | false ↦ go r.reached ]
+go_on a (Ok k) go = go k.span.end
+go_on a (Err r) go = elim ((number_in r) == 19) [ true ↦ refused_of TooDeep a r.span.end r.reached | false ↦ go r.reached ]
 
 -- one scalar v of a body; after it stand the scalars cs, from p on, and `go` reads on from a place at a brace level
 unfoldable pub template_turn : (List ℕ → ℕ → Read) → ℕ → ℕ → List ℕ → ℕ → ℕ → (ℕ → ℕ → Read) → Read
@@ -51,7 +50,7 @@ template_of R next a cs p = template_body R next a 0 cs p 0
 
 -- the 65th: refused from its start to after its backtick
 abbrev pub too_deep : Deep
-too_deep a cs p = refused_of 19 a p p
+too_deep a cs p = refused_of TooDeep a p p
 
 -- a token within which d templates may still open, one inside the other
 unfoldable pub token_of : Rules → ℕ → List ℕ → ℕ → Read

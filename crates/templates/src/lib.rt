@@ -10,35 +10,41 @@ use choice::read_first;
 use readers::Reading;
 use text::Scalar;
 use text::character::{BACKSLASH, BACKTICK, CLOSE_BRACE, OPEN_BRACE};
-use token::refusal::TOO_DEEP;
-use token::{Kind, Read};
+use token::{Kind, Reason, Refusal, Token};
 
 // The token at a place, within which `depth` templates may still open, one inside the other.
 #[cycle(read_template_read_token)]
-pub fn read_token(s: &[u8], reading: Reading, at: usize, depth: u32) -> Read
+pub fn read_token(s: &[u8], reading: Reading, at: usize, depth: u32) -> Result<Token, Refusal>
     ensures { result ≡ token_of (rules_of reading) depth (rest s.now at) at }
 {
-    let Scalar::One { value, next } = text::scalar_at(s, at) else {
+    let Some(first) = text::scalar_at(s, at) else {
         return token::got(Kind::Eof, at, at);
     };
+    let Scalar { value, next } = first;
     if value != BACKTICK {
-        return read_first(s, reading, value, at, next);
+        return read_first(s, reading, at, first);
     }
     if depth == 0 {
-        return token::refused(TOO_DEEP, at, next, next);
+        return token::refused(Reason::TooDeep, at, next, next);
     }
     read_template(s, reading, at, next, depth - 1)
 }
 
 // A template that starts at `start`, from after its backtick on.
 #[cycle(read_template_read_token)]
-fn read_template(s: &[u8], reading: Reading, start: usize, at: usize, depth: u32) -> Read
+fn read_template(
+    s: &[u8],
+    reading: Reading,
+    start: usize,
+    at: usize,
+    depth: u32,
+) -> Result<Token, Refusal>
     ensures { result ≡ template_of (rules_of reading) (token_of (rules_of reading) depth) start (rest s.now at) at }
 {
     let mut p = at;
     let mut level: u32 = 0;
     loop {
-        let Scalar::One { value, next } = text::scalar_at(s, p) else {
+        let Some(Scalar { value, next }) = text::scalar_at(s, p) else {
             return token::got(Kind::Template { closed: false }, start, p);
         };
         if value == BACKTICK {
@@ -47,21 +53,25 @@ fn read_template(s: &[u8], reading: Reading, start: usize, at: usize, depth: u32
             }
             p = next;
         } else if value == OPEN_BRACE {
-            level = std::num::wrapping_add_u32(level, 1);
+            level = level.wrapping_add(1);
             p = next;
         } else if value == CLOSE_BRACE {
-            level = std::num::wrapping_sub_u32(level, 1);
+            level = level.wrapping_sub(1);
             p = next;
         } else if value == BACKSLASH {
             match read_token(s, reading, next, depth) {
-                Read::Got { token } => {
-                    p = token.span.end;
-                }
-                Read::Refused { refusal } => {
-                    if refusal.number == TOO_DEEP {
-                        return token::refused(TOO_DEEP, start, refusal.span.end, refusal.reached);
+                Ok(token) => p = token.span.end,
+                Err(
+                    Refusal {
+                        reason,
+                        span,
+                        reached,
+                    },
+                ) => {
+                    if reason == Reason::TooDeep {
+                        return token::refused(Reason::TooDeep, start, span.end, reached);
                     }
-                    p = refusal.reached;
+                    p = reached;
                 }
             }
         } else {

@@ -1,4 +1,5 @@
 -- The bridge from bytes to scalars: what stands at a place, and where the scalars go on. Assumes nothing.
+use Rattle.std.specs.Prelude.{Option, Some, None}
 use Prim.Native.Nat.{ℕ, zero, suc, ◌+◌, ◌≤◌, ◌<◌}
 use mathlib.Core.Path.{◌≡◌, refl, sym, ap, ◌∙◌, subst}
 use mathlib.Core.List.{List, [], ◌∷◌}
@@ -10,9 +11,9 @@ use lib.ListN.{get_or-eq_default, drop, drop_of_length-le, get_or, length, lengt
 use borrow.Author.Tests.{le-leb}
 use Rattle.laws.proofs.Cases.{never, split, split_eq, split_le}
 use Rattle.text.proofs.Leads.{Whole, lead_whole, tail_inv, value_zero, wide_lead, width_1}
-use Rattle.text.specs.Utf8.{Lead, after, bad, decode, first, from, head_at, lead_of, rest, scalar_at, second_at, second_of, seq, tail, width}
+use Rattle.text.specs.Utf8.{Lead, after, bad, decode, first, from, head_at, lead_of, rest, scalar_at, scalar_of, second_at, second_of, seq, tail, width}
 use Rattle.text.specs.Wide.{step_of, value_of, wide_of}
-use Rattle.text.specs.declared.utf8.Scalar.TheVariants.{None, One}
+use Rattle.text.specs.declared.utf8.Scalar.{Scalar}
 
 -- a scalar v stands at a place, and the scalars go on at n
 pub record Step (s : List ℕ) (at v n : ℕ) : Type 0 where
@@ -98,22 +99,27 @@ by_first {X = X} s at f g = go (first (drop at s)) refl
     go (seq v n) e = g v n e
 
 -- what `scalar_at` says of the scalars from there on, both ways
-pub step_scalar : (s : List ℕ) (at v n : ℕ) → Step s at v n → One v n ≡ scalar_at s at
+pub step_scalar : (s : List ℕ) (at v n : ℕ) → Step s at v n → Some (scalar_of v n) ≡ scalar_at s at
 unfolding scalar_at head_at
-step_scalar s at v n t = sym (rw t.here (ap (One v) (sym t.next)))
+step_scalar s at v n t = sym (rw t.here (ap (λ (n : ℕ). Some (scalar_of v n)) (sym t.next)))
 
 pub none_scalar : (s : List ℕ) (at : ℕ) → rest s at ≡ [] → None ≡ scalar_at s at
 unfolding scalar_at head_at
 none_scalar s at e = rw e
 
-pub step_one : (s : List ℕ) (at v n : ℕ) → scalar_at s at ≡ One v n → Step s at v n
+abbrev told : Option Scalar → Scalar
+told None = scalar_of 0 0
+told (Some x) = x
+
+pub step_one : (s : List ℕ) (at v n : ℕ) → scalar_at s at ≡ Some (scalar_of v n) → Step s at v n
 step_one s at v n h =
     by_first s at (λ e. never (let z = none_scalar s at (end_first s at e) in cc))
     (λ v' k e.
     let t = step_first s at v' k e in
     let z = step_scalar s at v' (at + suc k) t in
-    let ev : v' ≡ v = cc in
-    let en : at + suc k ≡ n = cc in
+    let q = ap told (z ∙ h) in
+    let ev : v' ≡ v = ap (λ (x : Scalar). x.value) q in
+    let en : at + suc k ≡ n = ap (λ (x : Scalar). x.next) q in
     subst (λ (p : ℕ × ℕ). Step s at p.0 p.1) (λ i. (ev i, en i)) t)
 
 pub step_none : (s : List ℕ) (at : ℕ) → scalar_at s at ≡ None → rest s at ≡ []
@@ -157,8 +163,8 @@ step_byte s at v n t h =
 pub wide_bytes : (a : ℕ) {b b' c c' d d' : ℕ} → b ≡ b' → c ≡ c' → d ≡ d' → wide_of a b c d ≡ wide_of a b' c' d'
 wide_bytes a p q r = λ i. wide_of a (p i) (q i) (r i)
 
--- a longer sequence, by the value that the code finds: 0 where there is none
-module _ (s : List ℕ) (at : ℕ) (h : at < length s) (hi : 0x7f < get_or s at 0) (w : ℕ)
+-- a longer sequence, by the value that the code finds
+module _ (s : List ℕ) (at : ℕ) (h : at < length s) (hi : 0x7f < get_or s at 0) (w : Option ℕ)
     (ew : w ≡ wide_of (get_or s at 0) (get_or s (at + 1) 0) (get_or s (at + 2) 0) (get_or s (at + 3) 0)) where
   wide_is : w ≡ value_of (first (drop at s))
   wide_is = ew ∙ wide_lead (get_or s at 0) (get_or s (at + 1) 0) (get_or s (at + 2) 0) (get_or s (at + 3) 0) hi ∙ ap value_of (sym (first_at s at h))
@@ -173,16 +179,17 @@ module _ (s : List ℕ) (at : ℕ) (h : at < length s) (hi : 0x7f < get_or s at 
       (λ z. absurd (omega (arith, value_zero (get_or s at 0) (get_or s (at + 1) 0) (get_or s (at + 2) 0) (get_or s (at + 3) 0) v hi (sym (first_at s at h) ∙ q ∙ ap (seq v) z))))
       (λ z. omega arith)
 
-  pub wide_none : w ≡ 0 → rest s at ≡ []
+  pub wide_none : w ≡ None → rest s at ≡ []
   wide_none z =
       by_first s at (λ e. end_first s at e)
-      (λ v e q. absurd (let k = (at_whole v e q).some (longer v e q) in let u = wide_is ∙ ap value_of q in omega arith))
+      (λ v e q. never (let u = wide_is ∙ ap value_of q in cc))
 
-  pub wide_one : (w ≡ 0 → ⊥) → (n : ℕ) → n ≡ step_of (get_or s at 0) → Step s at w (at + n)
-  wide_one z n en =
-      by_first s at (λ e. absurd (z (wide_is ∙ ap value_of e)))
+  pub wide_one : (x : ℕ) → w ≡ Some x → (n : ℕ) → n ≡ step_of (get_or s at 0) → Step s at x (at + n)
+  wide_one x z n en =
+      by_first s at (λ e. never (let u = wide_is ∙ ap value_of e in cc))
       (λ v e q.
-      let ev : v ≡ w = sym (wide_is ∙ ap value_of q) in
+      let u = wide_is ∙ ap value_of q in
+      let ev : v ≡ x = cc in
       let ee : at + suc e ≡ at + n = ap (λ (k : ℕ). at + k) (sym (en ∙ (at_whole v e q).steps (longer v e q))) in
       subst (λ (p : ℕ × ℕ). Step s at p.0 p.1) (λ i. (ev i, ee i)) (step_first s at v e q))
 

@@ -1,8 +1,7 @@
 -- RFC 3629: the scalars of the longest well-formed prefix of a byte list, and the places at which they stand.
-use Rattle.std.specs.Prelude.{ℕ, zero, suc, ◌+◌, ◌*◌, ◌%◌, List, [], ◌∷◌, Bool, true, false, leb, eqb, drop, get_or}
+use Rattle.std.specs.Prelude.{ℕ, zero, suc, ◌+◌, ◌*◌, ◌%◌, List, [], ◌∷◌, Bool, true, false, leb, eqb, drop, get_or, Option, Some, None}
 use Rattle.laws.specs.Bools.{both, pick, within}
 use Rattle.text.specs.declared.utf8.Scalar.{Scalar}
-use Rattle.text.specs.declared.utf8.Scalar.TheVariants.{None, One}
 
 -- what a byte list starts with: a scalar and how many bytes follow its first one, or no well-formed sequence
 pub data Lead : Type 0 where
@@ -72,17 +71,21 @@ unfoldable pub after : List ℕ → ℕ → ℕ
 after [] p = p
 after (v ∷ cs) p = after cs (p + width v)
 
--- the first of the scalars cs and the place after it; the first stands at p
-unfoldable pub head_at : List ℕ → ℕ → Scalar
-head_at [] p = None
-head_at (v ∷ cs) p = One v (p + width v)
+-- a scalar and the place after it
+abbrev pub scalar_of : ℕ → ℕ → Scalar
+scalar_of v n = record { value = v; next = n }
 
-unfoldable pub scalar_at : List ℕ → ℕ → Scalar
+-- the first of the scalars cs and the place after it; the first stands at p
+unfoldable pub head_at : List ℕ → ℕ → Option Scalar
+head_at [] p = None
+head_at (v ∷ cs) p = Some (scalar_of v (p + width v))
+
+unfoldable pub scalar_at : List ℕ → ℕ → Option Scalar
 scalar_at s at = head_at (rest s at) at
 
-unfoldable pub second_of : List ℕ → ℕ → Scalar
+unfoldable pub second_of : List ℕ → ℕ → Option Scalar
 second_of [] p = None
 second_of (v ∷ cs) p = head_at cs (p + width v)
 
-unfoldable pub second_at : List ℕ → ℕ → Scalar
+unfoldable pub second_at : List ℕ → ℕ → Option Scalar
 second_at s at = second_of (rest s at) at

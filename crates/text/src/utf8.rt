@@ -1,13 +1,14 @@
-// The scalar at a position. ASCII goes first and short, so that `scalar_at` is inlined into every reader; `wide` stays out of line.
+// The scalar at a position, or none at the end and where a sequence is ill-formed. ASCII goes first and short, so that `scalar_at`
+// is inlined into every reader; `wide` stays out of line.
 ghost use Rattle.std.specs.Prelude.{◌≡◌, get_or};
 ghost use Rattle.text.specs.Utf8.{four_of, scalar_at, second_at, second_fits, tail, three_of, two_of};
 ghost use Rattle.text.specs.Wide.{step_of, value_of, wide_of};
 
-// What stands at a position: a scalar and the place after it, or nothing (the end, or an ill-formed sequence).
-#[derive(Drop)]
-pub enum Scalar {
-    One { value: u32, next: usize },
-    None,
+// A scalar and the place after it.
+#[derive(Clone, Copy)]
+pub struct Scalar {
+    pub value: u32,
+    pub next: usize,
 }
 
 // The byte at i; past the end 0, which continues nothing.
@@ -17,87 +18,60 @@ pub fn byte_at(s: &[u8], i: usize) -> u8
     if i < s.len() { s[i] } else { 0 }
 }
 
+#[tactic(auto, unfolding(crate::specs::Utf8::tail, laws::specs::Bools::within))]
 pub fn is_tail(b: u8) -> bool
     ensures { result ≡ tail b }
 {
-    if b < 0x80 {
-        return false;
-    }
-    b <= 0xbf
+    matches!(b, 0x80..=0xbf)
 }
 
-fn two(a: u8, b: u8) -> u32
+#[tactic(auto, unfolding(crate::specs::Utf8::two_of, crate::specs::Utf8::tail, crate::specs::Wide::value_of, laws::specs::Bools::within))]
+fn two(a: u8, b: u8) -> Option<u32>
     ensures { result ≡ value_of (two_of a b) }
 {
-    if a < 0xc2 {
-        return 0;
+    if !matches!(a, 0xc2..=0xdf) || !is_tail(b) {
+        return None;
     }
-    if 0xdf < a {
-        return 0;
-    }
-    if !is_tail(b) {
-        return 0;
-    }
-    (a as u32) % 32 * 64 + (b as u32) % 64
+    Some((a as u32) % 32 * 64 + (b as u32) % 64)
 }
 
-fn three(a: u8, b: u8, c: u8) -> u32
+#[tactic(auto, unfolding(crate::specs::Utf8::three_of, crate::specs::Utf8::tail, crate::specs::Wide::value_of, laws::specs::Bools::within))]
+fn three(a: u8, b: u8, c: u8) -> Option<u32>
     ensures { result ≡ value_of (three_of a b c) }
 {
-    if a < 0xe0 {
-        return 0;
+    if !matches!(a, 0xe0..=0xef) || !in_second(a, b) || !is_tail(c) {
+        return None;
     }
-    if 0xef < a {
-        return 0;
-    }
-    if !in_second(a, b) {
-        return 0;
-    }
-    if !is_tail(c) {
-        return 0;
-    }
-    (a as u32) % 16 * 4096 + (b as u32) % 64 * 64 + (c as u32) % 64
+    Some((a as u32) % 16 * 4096 + (b as u32) % 64 * 64 + (c as u32) % 64)
 }
 
-fn four(a: u8, b: u8, c: u8, d: u8) -> u32
+#[tactic(auto, unfolding(crate::specs::Utf8::four_of, crate::specs::Utf8::tail, crate::specs::Wide::value_of, laws::specs::Bools::within))]
+fn four(a: u8, b: u8, c: u8, d: u8) -> Option<u32>
     ensures { result ≡ value_of (four_of a b c d) }
 {
-    if a < 0xf0 {
-        return 0;
+    if !matches!(a, 0xf0..=0xf4) || !in_second(a, b) || !is_tail(c) || !is_tail(d) {
+        return None;
     }
-    if 0xf4 < a {
-        return 0;
-    }
-    if !in_second(a, b) {
-        return 0;
-    }
-    if !is_tail(c) {
-        return 0;
-    }
-    if !is_tail(d) {
-        return 0;
-    }
-    (a as u32) % 8 * 262144 + (b as u32) % 64 * 4096 + (c as u32) % 64 * 64 + (d as u32) % 64
+    Some((a as u32) % 8 * 262144 + (b as u32) % 64 * 4096 + (c as u32) % 64 * 64 + (d as u32) % 64)
 }
 
 // Whether b may follow the first byte a: a tail byte, and no overlong form, no surrogate, nothing above 10FFFF.
+#[tactic(auto, unfolding(crate::specs::Utf8::second_fits, crate::specs::Utf8::low_of, crate::specs::Utf8::high_of, crate::specs::Utf8::tail, laws::specs::Bools::within))]
 pub fn in_second(a: u8, b: u8) -> bool
     ensures { result ≡ second_fits a b }
 {
-    if !is_tail(b) {
-        return false;
-    }
-    match a {
-        0xe0 => 0xa0 <= b,
-        0xed => b <= 0x9f,
-        0xf0 => 0x90 <= b,
-        0xf4 => b <= 0x8f,
-        _ => true,
-    }
+    is_tail(b)
+        && match a {
+            0xe0 => 0xa0 <= b,
+            0xed => b <= 0x9f,
+            0xf0 => 0x90 <= b,
+            0xf4 => b <= 0x8f,
+            _ => true,
+        }
 }
 
-// The scalar of a sequence of two bytes or more, by value in and out; 0 where there is none.
-pub fn wide(a: u8, b: u8, c: u8, d: u8) -> u32
+// The scalar of a sequence of two bytes or more, by value in and out.
+pub fn wide(a: u8, b: u8, c: u8, d: u8) -> Option<u32>
     ensures { result ≡ wide_of a b c d }
 {
     if a <= 0xdf {
@@ -122,40 +96,37 @@ pub fn step_of(a: u8) -> usize
     }
 }
 
-pub fn scalar_at(s: &[u8], at: usize) -> Scalar
+pub fn scalar_at(s: &[u8], at: usize) -> Option<Scalar>
     ensures { result ≡ scalar_at s.now at }
 {
     if s.len() <= at {
-        return Scalar::None;
+        return None;
     }
     let a = s[at];
     if a <= 0x7f {
-        return Scalar::One {
+        return Some(Scalar {
             value: a as u32,
             next: at + 1,
-        };
+        });
     }
-    let v = wide(
+    let value = wide(
         a,
         byte_at(s, at + 1),
         byte_at(s, at + 2),
         byte_at(s, at + 3),
-    );
-    if v == 0 {
-        return Scalar::None;
-    }
-    Scalar::One {
-        value: v,
+    )?;
+    Some(Scalar {
+        value,
         next: at + step_of(a),
-    }
+    })
 }
 
 // The scalar after the one at a position.
-pub fn second_at(s: &[u8], at: usize) -> Scalar
+pub fn second_at(s: &[u8], at: usize) -> Option<Scalar>
     ensures { result ≡ second_at s.now at }
 {
-    let Scalar::One { value: _, next } = scalar_at(s, at) else {
-        return Scalar::None;
+    let Some(Scalar { next, .. }) = scalar_at(s, at) else {
+        return None;
     };
     scalar_at(s, next)
 }

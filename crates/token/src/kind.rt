@@ -1,7 +1,7 @@
 // Kinds of tokens in document 01's order.
 
 // Which bracket was opened or closed: `( )`, `[ ]` or `{ }`.
-#[derive(Clone, Copy)]
+#[derive(Clone, Copy, PartialEq, Eq)]
 pub enum Bracket {
     Round,
     Square,
@@ -9,7 +9,7 @@ pub enum Bracket {
 }
 
 // A kind with its data. A template's kind says whether a backtick closed it, and its number does not.
-#[derive(Clone, Copy)]
+#[derive(Clone, Copy, PartialEq, Eq)]
 pub enum Kind {
     Whitespace,
     Comment,
@@ -71,11 +71,4 @@ pub enum Kind {
     LtLtEq,
     GtGtEq,
     Eof,
-}
-
-// A kind, or none: what a number or some characters stand for.
-#[derive(Clone, Copy)]
-pub enum Known {
-    Is { kind: Kind },
-    Unknown,
 }

@@ -1,9 +1,10 @@
-// The vocabulary of tokens: kinds with their data, spans, answers, and the numbers of refusals. What a kind's number is stands in `numbers`.
+// The vocabulary of tokens: kinds with their data, spans, answers, and the reasons of refusals. What a kind's number is stands in `numbers`.
 #![tactic(auto)]
 
 mod kind;
 mod read;
-pub mod refusal;
+mod reason;
 
-pub use kind::{Bracket, Kind, Known};
-pub use read::{Read, Refusal, Span, Token, got, point, refusal_in, refused};
+pub use kind::{Bracket, Kind};
+pub use read::{Refusal, Span, Token, got, point, refused};
+pub use reason::Reason;

@@ -1,4 +1,8 @@
 -- The turns of a body at a place of its source, and the answer made of what was measured. Assumes nothing.
+use Rattle.token.specs.declared.reason.Reason.{Reason}
+use Rattle.std.specs.Prelude.{Err, Ok}
+use Rattle.token.specs.Reads.{Tested}
+use Rattle.token.specs.declared.reason.Reason.TheVariants.{NotOneItem, OutputShort}
 use Prim.Native.Nat.{ℕ, ◌+◌, ◌≤◌, ◌<◌}
 use mathlib.Core.Path.{◌≡◌, refl, sym, ap, ◌∙◌, subst}
 use mathlib.Core.List.{List, [], ◌∷◌}
@@ -19,16 +23,11 @@ use Rattle.items.specs.declared.Form.{Form}
 use Rattle.laws.proofs.Cases.{never}
 use Rattle.laws.specs.Bools.{pick}
 use Rattle.source_test.specs.Source.{source_test}
-use Rattle.source_test.specs.declared.Tested.{Tested}
-use Rattle.source_test.specs.declared.Tested.TheVariants.{Sound, Unsound}
 use Rattle.text.proofs.Decode.{Step, after_step, rest_tail, width_pos}
 use Rattle.text.specs.Utf8.{after, rest, width}
 use Rattle.token.specs.declared.read.Refusal.{Refusal}
-use Rattle.unescape.specs.Bodies.{Body, Ending, Result, also, body_of, fault, item_turn, items_bytes, judge, no_more, refuse, refused_at, refuse_with, unescape_of, unescaped_of, whole, wrong_count, wrote}
+use Rattle.unescape.specs.Bodies.{Body, Ending, Result, also, body_of, fault, item_turn, items_bytes, judge, no_more, refusal_at, refuse, refuse_with, unescape_of, unescaped_of, whole, wrong_count, wrote}
 use Rattle.unescape.specs.Measures.{measured_of}
-use Rattle.unescape.specs.declared.body.Measured.{Measured}
-use Rattle.unescape.specs.declared.body.Measured.TheVariants.{Stopped, Whole}
-use Rattle.unescape.specs.declared.body.Unescaped.TheVariants.{Wrote}
 
 pub arrived : (form : Form) (cs : List ℕ) (t : ℕ) → body_of form t cs t ≡ body_of form 0 cs t
 unfolding body_of
@@ -95,44 +94,42 @@ module _ (form : Form) (s : List ℕ) (p v n : ℕ) (t : Step s p v n) (e : Esca
   unfolding item_turn
   body_skipped m h = turn ∙ rw h (go_on m (sym (ap place_of h)))
 
-  pub body_bad : (number m : ℕ) → e ≡ Bad number m → body_at form s p ≡ no_more (fault number p m)
+  pub body_bad : (reason : Reason) (m : ℕ) → e ≡ Bad reason m → body_at form s p ≡ no_more (fault reason p m)
   unfolding item_turn
-  body_bad number m h = turn ∙ rw h
+  body_bad reason m h = turn ∙ rw h
 
   pub fits_here : (x m : ℕ) → e ≡ Item x m → Fits form p x m
   fits_here x m h = item_fits form p v (rest s n) x m (step_is_scalar s p v n t) (sym found ∙ h)
 
-pub by_ending {ℓ} : {X : Type ℓ} (e : Ending) → (e ≡ whole → X) → ((number start end : ℕ) → e ≡ fault number start end → X) → X
+pub by_ending {ℓ} : {X : Type ℓ} (e : Ending) → (e ≡ whole → X) → ((reason : Reason) (start end : ℕ) → e ≡ fault reason start end → X) → X
 by_ending whole f g = f refl
-by_ending (fault number start end) f g = g number start end refl
+by_ending (fault reason start end) f g = g reason start end refl
 
 -- the answer, of how the items end
 module _ (form : Form) (s : List ℕ) (room : ℕ) where
-  pub read_fault : (number start end : ℕ) → (body_at form s 0).ending ≡ fault number start end → unescaped_of form s room ≡ refuse number start end
+  pub read_fault : (reason : Reason) (start end : ℕ) → (body_at form s 0).ending ≡ fault reason start end → unescaped_of form s room ≡ refuse reason start end
   unfolding unescaped_of judge
-  read_fault number start end e = rw (e, judge)
+  read_fault reason start end e = rw (e, judge)
 
   pub read_whole : (body_at form s 0).ending ≡ whole → unescaped_of form s room
-      ≡ pick (wrong_count form (length (body_at form s 0).items)) (refuse 27 0 (length s))
-      (pick (ltb room (length (items_bytes form (body_at form s 0).items))) (refuse 26 0 (length s)) (wrote (items_bytes form (body_at form s 0).items)))
+      ≡ pick (wrong_count form (length (body_at form s 0).items)) (refuse NotOneItem 0 (length s))
+      (pick (ltb room (length (items_bytes form (body_at form s 0).items))) (refuse OutputShort 0 (length s)) (wrote (items_bytes form (body_at form s 0).items)))
   unfolding unescaped_of judge
   read_whole e = rw (e, judge)
 
 -- .. and of what was measured
-module _ (form : Form) (s : List ℕ) (room : ℕ) (m : Measured) (q : m ≡ measured_of form 0 (body_at form s 0)) where
-  pub read_stopped : (number start end : ℕ) → m ≡ Stopped number start end → unescaped_of form s room ≡ refuse number start end
+module _ (form : Form) (s : List ℕ) (room : ℕ) where
+  pub read_stopped : (r : Refusal) → Err r ≡ measured_of form 0 (body_at form s 0) → unescaped_of form s room ≡ refuse_with r
   unfolding measured_of
-  read_stopped number start end h =
+  read_stopped r q =
       by_ending (body_at form s 0).ending
       (λ e. never (let z = (rw (e, measured_of) at q) in cc))
       (λ a b c e.
       let z = (rw (e, measured_of) at q) in
-      let x : a ≡ number = cc in
-      let y : b ≡ start = cc in
-      let w : c ≡ end = cc in
-      read_fault form s room a b c e ∙ (λ j. refuse (x j) (y j) (w j)))
+      let x : refusal_at a b c ≡ r = cc in
+      read_fault form s room a b c e ∙ ap refuse_with x)
 
-  module _ (count : ℕ) (h : m ≡ Whole count) where
+  module _ (count : ℕ) (q : Ok count ≡ measured_of form 0 (body_at form s 0)) where
     pub whole_is : ((body_at form s 0).ending ≡ whole) × (count ≡ length (items_bytes form (body_at form s 0).items))
     unfolding measured_of
     whole_is =
@@ -144,39 +141,39 @@ module _ (form : Form) (s : List ℕ) (room : ℕ) (m : Measured) (q : m ≡ mea
         (λ a b c e. never (let z = (rw (e, measured_of) at q) in cc))
 
     judged : unescaped_of form s room
-        ≡ pick (wrong_count form (length (body_at form s 0).items)) (refuse 27 0 (length s)) (pick (ltb room count) (refuse 26 0 (length s)) (wrote (items_bytes form (body_at form s 0).items)))
+        ≡ pick (wrong_count form (length (body_at form s 0).items)) (refuse NotOneItem 0 (length s)) (pick (ltb room count) (refuse OutputShort 0 (length s)) (wrote (items_bytes form (body_at form s 0).items)))
     judged =
         read_whole form s room whole_is.0
-        ∙ ap (λ (c : ℕ). pick (wrong_count form (length (body_at form s 0).items)) (refuse 27 0 (length s)) (pick (ltb room c) (refuse 26 0 (length s)) (wrote (items_bytes form (body_at form s 0).items)))) (sym whole_is.1)
+        ∙ ap (λ (c : ℕ). pick (wrong_count form (length (body_at form s 0).items)) (refuse NotOneItem 0 (length s)) (pick (ltb room c) (refuse OutputShort 0 (length s)) (wrote (items_bytes form (body_at form s 0).items)))) (sym whole_is.1)
 
-    pub read_wrong : wrong_count form (length (body_at form s 0).items) ≡ true → unescaped_of form s room ≡ refuse 27 0 (length s)
+    pub read_wrong : wrong_count form (length (body_at form s 0).items) ≡ true → unescaped_of form s room ≡ refuse NotOneItem 0 (length s)
     read_wrong w = judged ∙ rw w
 
     module _ (w : wrong_count form (length (body_at form s 0).items) ≡ false) where
-      pub read_short : room < count → unescaped_of form s room ≡ refuse 26 0 (length s)
+      pub read_short : room < count → unescaped_of form s room ≡ refuse OutputShort 0 (length s)
       read_short l = judged ∙ rw (w, lt-ltb room count l)
 
       pub read_wrote : count ≤ room → unescaped_of form s room ≡ wrote (items_bytes form (body_at form s 0).items)
       read_wrote l = judged ∙ rw (w, le-ltb room count l)
 
 module _ (form : Form) (s : List ℕ) (room : ℕ) (t : Tested) (q : t ≡ source_test s) where
-  pub source_sound : t ≡ Sound → unescape_of form s room ≡ unescaped_of form s room
+  pub source_sound : t ≡ Ok tt → unescape_of form s room ≡ unescaped_of form s room
   unfolding unescape_of
   source_sound h = rw (sym q ∙ h, unescape_of)
 
-  pub source_refused : (r : Refusal) → t ≡ Unsound r → unescape_of form s room ≡ refuse_with r
+  pub source_refused : (r : Refusal) → t ≡ Err r → unescape_of form s room ≡ refuse_with r
   unfolding unescape_of
   source_refused r h = rw (sym q ∙ h, unescape_of)
 
 -- a refusal writes nothing
-pub refused_store : (r : Result) (number start end : ℕ) (out : List ℕ) → r ≡ refuse number start end → out ≡ sets out 0 r.bytes
-refused_store r number start end out h = sym (ap (λ (x : Result). sets out 0 x.bytes) h)
+pub refused_store : (r : Result) (f : Refusal) (out : List ℕ) → r ≡ refuse_with f → out ≡ sets out 0 r.bytes
+refused_store r f out h = sym (ap (λ (x : Result). sets out 0 x.bytes) h)
 
-pub refused_answer : (r : Result) (number start end : ℕ) → r ≡ refuse number start end → refused_at number start end ≡ r.answer
-refused_answer r number start end h = sym (ap (λ (x : Result). x.answer) h)
+pub refused_answer : (r : Result) (f : Refusal) → r ≡ refuse_with f → Err f ≡ r.answer
+refused_answer r f h = sym (ap (λ (x : Result). x.answer) h)
 
-pub wrote_answer : (r : Result) (l : List ℕ) (count : ℕ) → r ≡ wrote l → count ≡ length l → Wrote count ≡ r.answer
-wrote_answer r l count h e = ap Wrote e ∙ sym (ap (λ (x : Result). x.answer) h)
+pub wrote_answer : (r : Result) (l : List ℕ) (count : ℕ) → r ≡ wrote l → count ≡ length l → Ok count ≡ r.answer
+wrote_answer r l count h e = ap Ok e ∙ sym (ap (λ (x : Result). x.answer) h)
 
 pub wrote_store : (r : Result) (l out out' : List ℕ) → r ≡ wrote l → out' ≡ sets out 0 l → out' ≡ sets out 0 r.bytes
 wrote_store r l out out' h e = e ∙ sym (ap (λ (x : Result). sets out 0 x.bytes) h)

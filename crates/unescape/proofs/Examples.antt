@@ -1,4 +1,6 @@
 -- Document 01's examples of escapes: antt computes the definition. Assumes nothing.
+use Rattle.token.specs.declared.reason.Reason.{Reason}
+use Rattle.token.specs.declared.reason.Reason.TheVariants.{BadEscapeSequence, BadHexEscapeChar, BadUnicodeEscape}
 use Prim.Native.Nat.{ℕ}
 use mathlib.Core.Path.{◌≡◌, refl}
 use mathlib.Core.List.{List, [], ◌∷◌}
@@ -18,8 +20,8 @@ use Rattle.unescape.specs.Bodies.{body_of, item_turn, items_bytes, judge, refuse
 abbrev Gives : Form → List ℕ → List ℕ → Type 0
 Gives form s l = unescape_of form s 16 ≡ wrote l
 
-abbrev Refuses : Form → List ℕ → ℕ → ℕ → ℕ → Type 0
-Refuses form s number start end = unescape_of form s 16 ≡ refuse number start end
+abbrev Refuses : Form → List ℕ → Reason → ℕ → ℕ → Type 0
+Refuses form s reason start end = unescape_of form s 16 ≡ refuse reason start end
 
 -- \x7f accepted
 hex_7f : Gives Text (0x5c ∷ 0x78 ∷ 0x37 ∷ 0x66 ∷ []) (0x7f ∷ [])
@@ -27,7 +29,7 @@ unfolding unescape_of source_test sound_to unescaped_of judge body_of item_turn 
 hex_7f = refl
 
 -- \x80 is 23
-hex_80 : Refuses Text (0x5c ∷ 0x78 ∷ 0x38 ∷ 0x30 ∷ []) 23 0 4
+hex_80 : Refuses Text (0x5c ∷ 0x78 ∷ 0x38 ∷ 0x30 ∷ []) BadHexEscapeChar 0 4
 unfolding unescape_of source_test sound_to unescaped_of judge body_of item_turn item_of char_escape char_turn byte_escape byte_turn skip_white shared_of hex_of hex_second hex_value unicode_of digits_of items_bytes item_bytes encode_of bytes_of rest decode from first lead_of width after in_ranges white_space
 hex_80 = refl
 
@@ -42,12 +44,12 @@ unfolding unescape_of source_test sound_to unescaped_of judge body_of item_turn 
 overflow = refl
 
 -- \u{} is 22
-no_digit : Refuses Text (0x5c ∷ 0x75 ∷ 0x7b ∷ 0x7d ∷ []) 22 0 4
+no_digit : Refuses Text (0x5c ∷ 0x75 ∷ 0x7b ∷ 0x7d ∷ []) BadUnicodeEscape 0 4
 unfolding unescape_of source_test sound_to unescaped_of judge body_of item_turn item_of char_escape char_turn byte_escape byte_turn skip_white shared_of hex_of hex_second hex_value unicode_of digits_of items_bytes item_bytes encode_of bytes_of rest decode from first lead_of width after in_ranges white_space
 no_digit = refl
 
 -- \u{d800} is 22
-surrogate : Refuses Text (0x5c ∷ 0x75 ∷ 0x7b ∷ 0x64 ∷ 0x38 ∷ 0x30 ∷ 0x30 ∷ 0x7d ∷ []) 22 0 8
+surrogate : Refuses Text (0x5c ∷ 0x75 ∷ 0x7b ∷ 0x64 ∷ 0x38 ∷ 0x30 ∷ 0x30 ∷ 0x7d ∷ []) BadUnicodeEscape 0 8
 unfolding unescape_of source_test sound_to unescaped_of judge body_of item_turn item_of char_escape char_turn byte_escape byte_turn skip_white shared_of hex_of hex_second hex_value unicode_of digits_of items_bytes item_bytes encode_of bytes_of rest decode from first lead_of width after in_ranges white_space
 surrogate = refl
 
@@ -57,6 +59,6 @@ unfolding unescape_of source_test sound_to unescaped_of judge body_of item_turn 
 next_line = refl
 
 -- .. and in a char it is 20
-line_in_char : Refuses Char (0x5c ∷ 0x0a ∷ 0x20 ∷ 0x61 ∷ []) 20 0 2
+line_in_char : Refuses Char (0x5c ∷ 0x0a ∷ 0x20 ∷ 0x61 ∷ []) BadEscapeSequence 0 2
 unfolding unescape_of source_test sound_to unescaped_of judge body_of item_turn item_of char_escape char_turn byte_escape byte_turn skip_white shared_of hex_of hex_second hex_value unicode_of digits_of items_bytes item_bytes encode_of bytes_of rest decode from first lead_of width after in_ranges white_space
 line_in_char = refl

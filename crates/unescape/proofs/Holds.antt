@@ -1,5 +1,8 @@
 -- What holds of every body: its bytes are well-formed text, one item for a char or a byte, no more bytes than the body has,
 -- and a body without escapes as it stands. Assumes nothing.
+use Rattle.std.specs.Prelude.{Err, Ok}
+use Rattle.token.specs.Reads.{Counted}
+use Rattle.token.specs.declared.reason.Reason.TheVariants.{NotOneItem, OutputShort}
 use Prim.Native.Nat.{ℕ, ◌+◌, ◌≤◌, ◌<◌}
 use mathlib.Core.Path.{◌≡◌, refl, sym, ap, ap₂, ◌∙◌, subst}
 use mathlib.Core.List.{List, [], ◌∷◌, ◌++◌, append-nil}
@@ -24,15 +27,12 @@ use Rattle.laws.proofs.Cases.{never, split, split_eq, split_le}
 use Rattle.laws.proofs.Determined.{determined}
 use Rattle.source_test.proofs.Places.{by_tested, sound_inv}
 use Rattle.source_test.specs.Source.{sound_to, source_test}
-use Rattle.source_test.specs.declared.Tested.TheVariants.{Sound}
 use Rattle.text.proofs.Decode.{width_pos}
 use Rattle.text.proofs.Leads.{width_1}
 use Rattle.text.specs.Utf8.{after, decode, rest, width}
 use Rattle.token.specs.declared.read.Refusal.{Refusal}
 use Rattle.unescape.proofs.Bodies.{arrived, body_at, by_ending, read_fault, read_whole, source_refused, source_sound}
 use Rattle.unescape.specs.Bodies.{Body, Ending, Result, also, body_of, fault, item_turn, items_bytes, no_more, refusal_at, refuse_with, unescape_of, whole, wrong_count, wrote}
-use Rattle.unescape.specs.declared.body.Unescaped.{Unescaped}
-use Rattle.unescape.specs.declared.body.Unescaped.TheVariants.{Refused, Wrote}
 
 -- the items of a body are scalars, or bytes by the form, and take no more bytes than what they were read from
 pub record Sizes (form : Form) (b : Body) (start end : ℕ) : Type 0 where
@@ -59,7 +59,7 @@ sizes_turn : (form : Form) (a p : ℕ) (e : Escape) (go : ℕ → Body) (end : �
 unfolding item_turn
 sizes_turn form a p (Item x n) go end l k f g = sizes_also form (go n) a x n end (f x n refl) (g n refl)
 sizes_turn form a p (Skipped n) go end l k f g = sizes_later form (go n) a n end l (g n refl)
-sizes_turn form a p (Bad number n) go end l k f g = sizes_none form (fault number p n) a end (omega arith)
+sizes_turn form a p (Bad reason n) go end l k f g = sizes_none form (fault reason p n) a end (omega arith)
 
 lands_after : (cs : List ℕ) (p r : ℕ) → Lands cs p r → r ≤ after cs p
 unfolding after
@@ -84,7 +84,7 @@ body_sizes form (v ∷ cs) t p a (inr k) =
     let w = width_pos v in
     rw (lt-ltb p t (omega arith), body_of) (body_sizes form cs t (p + width v) a.1 k)
 
-sound_sizes : (form : Form) (s : List ℕ) → source_test s ≡ Sound → Sizes form (body_at form s 0) 0 (length s)
+sound_sizes : (form : Form) (s : List ℕ) → source_test s ≡ Ok tt → Sizes form (body_at form s 0) 0 (length s)
 unfolding sound_to rest
 sound_sizes form s h =
     subst (λ (k : ℕ). Sizes form (body_at form s 0) 0 k) (sound_inv s h).1
@@ -92,7 +92,7 @@ sound_sizes form s h =
 
 -- what an accepted body is
 pub record Accepted (form : Form) (s : List ℕ) (room : ℕ) : Type 0 where
-  pub sound : source_test s ≡ Sound
+  pub sound : source_test s ≡ Ok tt
   pub items : List ℕ
   pub count : wrong_count form (length items) ≡ false
   pub fits : length (items_bytes form items) ≤ room
@@ -105,7 +105,7 @@ unfolding items_bytes encode_all
 text_written form [] h = refl
 text_written form (x ∷ l) h = ap₂ (λ (a b : List ℕ). a ++ b) (scalar_bytes form x h) (text_written form l h)
 
-sound_of : (s : List ℕ) → after (rest s 0) 0 ≡ length s → length s ≤ 65536 → source_test s ≡ Sound
+sound_of : (s : List ℕ) → after (rest s 0) 0 ≡ length s → length s ≤ 65536 → source_test s ≡ Ok tt
 unfolding source_test sound_to
 sound_of s h l = rw (le-ltb 65536 (length s) l, eq-eqb (after (rest s 0) 0) (length s) h)
 
@@ -120,19 +120,19 @@ single [] h = absurd (omega arith)
 single (x ∷ []) h = (x, refl)
 single (x ∷ (y ∷ l)) h = absurd (omega arith)
 
-not_wrote {ℓ} : {X : Type ℓ} (r : Result) (k : Refusal) (n : ℕ) → r ≡ refuse_with k → r.answer ≡ Wrote n → X
+not_wrote {ℓ} : {X : Type ℓ} (r : Result) (k : Refusal) (n : ℕ) → r ≡ refuse_with k → r.answer ≡ Ok n → X
 not_wrote r k n h e = never (let z = ap (λ (x : Result). x.answer) h in cc)
 
-module _ (form : Form) (s : List ℕ) (room n : ℕ) (e : (unescape_of form s room).answer ≡ Wrote n) where
-  accepted_sound : source_test s ≡ Sound → Accepted form s room
+module _ (form : Form) (s : List ℕ) (room n : ℕ) (e : (unescape_of form s room).answer ≡ Ok n) where
+  accepted_sound : source_test s ≡ Ok tt → Accepted form s room
   accepted_sound h =
       let u = source_sound form s room (source_test s) refl h in
       let b = body_at form s 0 in
       by_ending b.ending
       (λ w. split (wrong_count form (length b.items))
-      (λ c. not_wrote (unescape_of form s room) (refusal_at 27 0 (length s)) n (u ∙ read_whole form s room w ∙ rw c) e)
+      (λ c. not_wrote (unescape_of form s room) (refusal_at NotOneItem 0 (length s)) n (u ∙ read_whole form s room w ∙ rw c) e)
       (λ c. split (ltb room (length (items_bytes form b.items)))
-      (λ l. not_wrote (unescape_of form s room) (refusal_at 26 0 (length s)) n (u ∙ read_whole form s room w ∙ rw (c, l)) e)
+      (λ l. not_wrote (unescape_of form s room) (refusal_at OutputShort 0 (length s)) n (u ∙ read_whole form s room w ∙ rw (c, l)) e)
       (λ l. record {
         sound = h;
         items = b.items;
@@ -141,7 +141,7 @@ module _ (form : Form) (s : List ℕ) (room n : ℕ) (e : (unescape_of form s ro
         read = ap (λ (x : Ending). record { items = b.items; ending = x }) w;
         result = u ∙ read_whole form s room w ∙ rw (c, l);
       })))
-      (λ number start end w. not_wrote (unescape_of form s room) (refusal_at number start end) n (u ∙ read_fault form s room number start end w) e)
+      (λ reason start end w. not_wrote (unescape_of form s room) (refusal_at reason start end) n (u ∙ read_fault form s room reason start end w) e)
 
   pub accepted : Accepted form s room
   accepted =
@@ -165,7 +165,7 @@ module _ (form : Form) (s : List ℕ) (room n : ℕ) (e : (unescape_of form s ro
   no_longer = omega (arith, sizes.room, count_is_length, ap length bytes_are, ap (λ (l : List ℕ). length (items_bytes form l)) items_are)
 
   -- the output of an accepted text, template or char body is a source: well-formed, and not over-long
-  pub well_formed : is_bytes form ≡ false → source_test (unescape_of form s room).bytes ≡ Sound
+  pub well_formed : is_bytes form ≡ false → source_test (unescape_of form s room).bytes ≡ Ok tt
   well_formed h =
       let all : AllScalar accepted.items = subst AllScalar items_are (sizes.scalars h) in
       let enc : (unescape_of form s room).bytes ≡ encode_all accepted.items = bytes_are ∙ text_written form accepted.items h in
@@ -207,7 +207,7 @@ bare_written form (v ∷ cs) h =
     (bare_written form cs h.2)
 
 -- a body without a backslash, and in the byte forms without a scalar above U+007F, comes out as it went in
-pub as_it_stands : (form : Form) (s : List ℕ) (room : ℕ) → source_test s ≡ Sound → Bare form (decode s) → (is_single form ≡ true → length (decode s) ≡ 1) → length s ≤ room
+pub as_it_stands : (form : Form) (s : List ℕ) (room : ℕ) → source_test s ≡ Ok tt → Bare form (decode s) → (is_single form ≡ true → length (decode s) ≡ 1) → length s ≤ room
     → unescape_of form s room ≡ wrote s
 unfolding rest sound_to
 as_it_stands form s room h b one l =
@@ -263,7 +263,7 @@ all_bare form (v ∷ cs) p a h =
     (λ e. ⊎_elim (λ k. (e, k.0, all_bare form cs q a.1 (omega (arith, k.1)))) (λ k. absurd (omega arith)) (plain_body form v cs p e a.0))
 
 -- only a body in which every scalar stands for itself gives as many bytes as it has
-pub as_long : (form : Form) (s : List ℕ) (room n : ℕ) → (unescape_of form s room).answer ≡ Wrote n → n ≡ length s → Bare form (decode s)
+pub as_long : (form : Form) (s : List ℕ) (room n : ℕ) → (unescape_of form s room).answer ≡ Ok n → n ≡ length s → Bare form (decode s)
 unfolding rest sound_to
 as_long form s room n e h =
     let a = accepted form s room n e in
@@ -283,14 +283,14 @@ enough_room form s room l =
     read_whole form s room w
     ∙ rw (le-ltb room (length (items_bytes form (body_at form s 0).items)) (omega arith))
     (sym (read_whole form s (length s) w ∙ rw (le-ltb (length s) (length (items_bytes form (body_at form s 0).items)) (omega arith)))))
-    (λ number start end w. read_fault form s room number start end w ∙ sym (read_fault form s (length s) number start end w))
+    (λ reason start end w. read_fault form s room reason start end w ∙ sym (read_fault form s (length s) reason start end w))
     ∙ sym (source_sound form s (length s) (source_test s) refl h))
     (λ r h. source_refused form s room (source_test s) refl r h ∙ sym (source_refused form s (length s) (source_test s) refl r h))
 
 -- a refusal writes nothing
-pub refused_nothing : (form : Form) (s : List ℕ) (room : ℕ) (r : Refusal) → (unescape_of form s room).answer ≡ Refused r → (unescape_of form s room).bytes ≡ []
+pub refused_nothing : (form : Form) (s : List ℕ) (room : ℕ) (r : Refusal) → (unescape_of form s room).answer ≡ Err r → (unescape_of form s room).bytes ≡ []
 refused_nothing form s room r e =
-    let Nothing : Result → Type 0 = λ x. x.answer ≡ Refused r → x.bytes ≡ [] in
+    let Nothing : Result → Type 0 = λ x. x.answer ≡ Err r → x.bytes ≡ [] in
     let of : (x : Result) → unescape_of form s room ≡ x → Nothing x → (unescape_of form s room).bytes ≡ [] = λ x q f. subst Nothing (sym q) f e in
     by_tested (source_test s)
     (λ h.
@@ -299,19 +299,19 @@ refused_nothing form s room r e =
     (λ w. of _ (u ∙ read_whole form s room w)
     (pick_of Nothing (wrong_count form (length (body_at form s 0).items)) _ _ (λ z. refl)
     (pick_of Nothing (ltb room (length (items_bytes form (body_at form s 0).items))) _ _ (λ z. refl) (λ z. never (cc)))))
-    (λ number start end w. of _ (u ∙ read_fault form s room number start end w) (λ z. refl)))
+    (λ reason start end w. of _ (u ∙ read_fault form s room reason start end w) (λ z. refl)))
     (λ q h. of _ (source_refused form s room (source_test s) refl q h) (λ z. refl))
 
 -- two results that the promise allows, answers and lent bytes, are equal
 module _ (form : Form) (s out : List ℕ) where
-  abbrev pub Allowed : Unescaped → List ℕ → Type 0
+  abbrev pub Allowed : Counted → List ℕ → Type 0
   Allowed r w = (r ≡ (unescape_of form s (length out)).answer) × (w ≡ sets out 0 (unescape_of form s (length out)).bytes)
 
-  pub unescape_determined : (r q : Unescaped) (v w : List ℕ) → Allowed r v → Allowed q w → (r ≡ q) × (v ≡ w)
+  pub unescape_determined : (r q : Counted) (v w : List ℕ) → Allowed r v → Allowed q w → (r ≡ q) × (v ≡ w)
   unescape_determined r q v w h k = (determined r q h.0 k.0, determined v w h.1 k.1)
 
 -- an accepted body changes only the bytes of its output
-pub only_output : (form : Form) (s out : List ℕ) (n : ℕ) → (unescape_of form s (length out)).answer ≡ Wrote n
+pub only_output : (form : Form) (s out : List ℕ) (n : ℕ) → (unescape_of form s (length out)).answer ≡ Ok n
     → sets out 0 (unescape_of form s (length out)).bytes ≡ (unescape_of form s (length out)).bytes ++ drop n out
 only_output form s out n e =
     let l = count_is_length form s (length out) n e in

@@ -1,15 +1,16 @@
 -- Escapes that are read by value are what document 01 gives them. Assumes nothing.
-use Prim.Native.Nat.{ℕ, ◌+◌, ◌-◌, ◌*◌, ◌/◌, ◌≤◌, ◌<◌}
+use Prim.Native.Nat.{ℕ, ◌+◌, ◌*◌, ◌/◌, ◌≤◌, ◌<◌}
 use mathlib.Core.Path.{◌≡◌, refl, sym, ap, ap₂, ◌∙◌, subst}
 use mathlib.Core.List.{List}
-use mathlib.Core.Bool.{Bool, true, false, not}
+use mathlib.Core.Bool.{true, false, not}
 use native.Mathlib.Omega.{arith}
 use lib.ListN.{get_or, length}
 use borrow.Author.Tests.{le-leb, lt-leb}
-use Rattle.classes.proofs.Hex.{hex_digit, hex_high, hex_low}
+use Rattle.std.specs.Prelude.{Option, Some, None}
+use Rattle.std.specs.Option.{is_some, unwrap_or}
 use Rattle.classes.specs.Digits.{hex_value, is_hex_digit}
 use Rattle.escapes.proofs.Escapes.{byte_turn_law, char_turn_law, close_yes, digits_close, digits_more, hex_small, hex_yes, second_yes, unicode_open}
-use Rattle.escapes.specs.Escapes.{byte_turn, char_turn, digits_of, hex_of, low_only, shift_in, unicode_of}
+use Rattle.escapes.specs.Escapes.{byte_turn, char_turn, close_of, digits_of, hex_of, low_only, shift_in, unicode_of}
 use Rattle.escapes.specs.declared.Escape.{Escape}
 use Rattle.escapes.specs.declared.Escape.TheVariants.{Item}
 use Rattle.items.proofs.Begins.{item_byte, item_char}
@@ -20,26 +21,12 @@ use Rattle.runs.proofs.Shorts.{escaped_inv}
 use Rattle.runs.specs.Runs.{begins_of, escaped_at}
 use Rattle.text.proofs.Decode.{Step, step_ascii}
 use Rattle.text.specs.Utf8.{rest}
-use Rattle.unescape.specs.Longs.{Closed, Hex, Packed}
+use Rattle.unescape.specs.Longs.{Closed, Packed}
 
 hex_ascii : (v : ℕ) → is_hex_digit v ≡ true → v ≤ 0x7f
 hex_ascii v h =
     split_le v 0x7f (λ l. l)
     (λ l. never (let z : is_hex_digit v ≡ false = simp (lt-leb v 0x39 (omega arith), lt-leb v 0x66 (omega arith), lt-leb v 0x46 (omega arith), both_false) in cc))
-
-module _ (v : ℕ) where
-  pub is_digit : 0x30 ≤ v → v ≤ 0x39 → Hex v (v - 0x30)
-  is_digit l h z = let d : is_hex_digit v ≡ true = simp (le-leb 0x30 v l, le-leb v 0x39 h) in record { digit = d; value = (hex_digit v d h).1 }
-
-  pub is_high : 0x41 ≤ v → v ≤ 0x46 → Hex v (v - 0x41 + 10)
-  is_high l h z =
-      let d : is_hex_digit v ≡ true = simp (lt-leb v 0x39 (omega arith), lt-leb 0x61 v (omega arith), le-leb 0x41 v l, le-leb v 0x46 h, both_false) in
-      record { digit = d; value = (hex_high v d (omega arith) h).1 }
-
-  pub is_low : 0x61 ≤ v → v ≤ 0x66 → Hex v (v - 0x61 + 10)
-  is_low l h z =
-      let d : is_hex_digit v ≡ true = simp (lt-leb v 0x39 (omega arith), le-leb 0x61 v l, le-leb v 0x66 h, both_false) in
-      record { digit = d; value = (hex_low v d (omega arith)).1 }
 
 -- 0 says nothing
 pub nothing : (p : ℕ) (e : Escape) → Packed p e 0
@@ -58,32 +45,33 @@ module _ (s : List ℕ) (at : ℕ) where
       ∙ hex_yes s (at + 2) a (at + 3) (ascii_at s (at + 2) (at + 3) a qa (omega arith) (hex_ascii a ha) (omega arith)) ha ea
 
   -- the digits from the place at + i on give what all of them give
-  pub record Digits (left i : ℕ) (some : Bool) (x : ℕ) : Type 0 where
-    pub same : digits_of some x (rest s (at + i)) (at + i) ≡ unicode_of (rest s (at + 2)) (at + 2)
-    pub few : x ≤ 0xffffff
+  pub record Digits (left i : ℕ) (x : Option ℕ) : Type 0 where
+    pub same : digits_of (is_some x) (unwrap_or x 0) (rest s (at + i)) (at + i) ≡ unicode_of (rest s (at + 2)) (at + 2)
+    pub few : unwrap_or x 0 ≤ 0xffffff
     pub inside : at + left ≡ length s
 
-  pub digits_first : (left : ℕ) → at + left ≡ length s → 3 ≤ left → get_or s (at + 2) 0 ≡ 0x7b → Digits left 3 false 0
+  pub digits_first : (left : ℕ) → at + left ≡ length s → 3 ≤ left → get_or s (at + 2) 0 ≡ 0x7b → Digits left 3 None
   digits_first left e h k =
       let t = ascii_at s (at + 2) (at + 3) 0x7b (sym k) (omega arith) (omega arith) (omega arith) in
       record { same = unicode_open s (at + 2) 0x7b (at + 3) t refl; few = omega arith; inside = e }
 
-  module _ (left i : ℕ) (some : Bool) (x : ℕ) (g : Digits left i some x) (l : i < left) (v : ℕ) (q : v ≡ get_or s (at + i) 0) where
+  module _ (left i : ℕ) (x : Option ℕ) (g : Digits left i x) (l : i < left) (v : ℕ) (q : v ≡ get_or s (at + i) 0) where
     digit_step : v ≤ 0x7f → Step s (at + i) v (at + (i + 1))
     digit_step h = ascii_at s (at + i) (at + (i + 1)) v q (omega (arith, g.inside)) h (omega arith)
 
-    pub digits_next : (v ≡ 0x7d → ⊥) → is_hex_digit v ≡ true → x ≤ 0xfffff → (d : ℕ) → d ≡ hex_value v → Digits left (i + 1) true (x * 16 + d)
-    digits_next h k few d e =
+    pub digits_next : (v ≡ 0x7d → ⊥) → is_hex_digit v ≡ true → unwrap_or x 0 ≤ 0xfffff → (d y : ℕ) → d ≡ hex_value v → y ≡ unwrap_or x 0 * 16 + d → Digits left (i + 1) (Some y)
+    digits_next h k few d y e u =
         let t = digit_step (hex_ascii v k) in
-        let y : x * 16 + d ≡ shift_in x v = omega arith in
-        record { same = digits_more s (at + i) v (at + (i + 1)) t some x h k y ∙ g.same; few = omega (arith, hex_small v); inside = g.inside }
+        let w : y ≡ shift_in (unwrap_or x 0) v = omega arith in
+        record { same = digits_more s (at + i) v (at + (i + 1)) t (is_some x) (unwrap_or x 0) h k w ∙ g.same; few = omega (arith, hex_small v); inside = g.inside }
 
-    pub digits_packed : (r : ℕ) → v ≡ 0x7d → Closed some x i r → Packed at (unicode_of (rest s (at + 2)) (at + 2)) r
+    pub digits_packed : (r : ℕ) → v ≡ 0x7d → Closed x i r → Packed at (unicode_of (rest s (at + 2)) (at + 2)) r
     digits_packed r h c z =
         let o = c z in
         let t = digit_step (omega arith) in
-        ap₂ Item o.item (omega (arith, o.place))
-        ∙ close_yes some x (at + (i + 1)) o.digits o.scalar ∙ digits_close s (at + i) v (at + (i + 1)) t some x h ∙ g.same
+        ap (Item (r / 16)) (omega (arith, o.place)) ∙ close_yes true (r / 16) (at + (i + 1)) refl o.scalar
+        ∙ ap (λ (y : Option ℕ). close_of (is_some y) (unwrap_or y 0) (at + (i + 1))) (sym o.digits)
+        ∙ digits_close s (at + i) v (at + (i + 1)) t (is_some x) (unwrap_or x 0) h ∙ g.same
 
 -- what stands after a backslash at a place
 module _ (form : Form) (s : List ℕ) (at v : ℕ) (q : v ≡ escaped_at s at) (l : v ≤ 0x7f) (h : v ≡ 0 → ⊥) where

@@ -1,4 +1,6 @@
 -- What the loops keep: the measuring one, the writing one with its copies, and the count of items. Assumes nothing.
+use Rattle.std.specs.Prelude.{Ok}
+use Rattle.token.specs.declared.reason.Reason.{Reason}
 use Prim.Native.Nat.{ℕ, ◌+◌, ◌-◌, ◌≤◌, ◌<◌}
 use mathlib.Core.Path.{◌≡◌, refl, sym, ap, ap₂, ◌∙◌, subst}
 use mathlib.Core.List.{List, [], ◌∷◌, ◌++◌}
@@ -21,9 +23,8 @@ use Rattle.text.proofs.Decode.{Step, rest_end}
 use Rattle.text.specs.Utf8.{after, rest}
 use Rattle.unescape.proofs.Bodies.{body_bad, body_end, body_item, body_skipped, body_at, by_ending, next_past, next_room}
 use Rattle.unescape.proofs.Stretches.{Stretch, stretch_bare, stretch_run}
-use Rattle.unescape.specs.Bodies.{Body, fault, items_bytes, no_more, whole}
+use Rattle.unescape.specs.Bodies.{Body, fault, items_bytes, no_more, refused_at, whole}
 use Rattle.unescape.specs.Measures.{Writable, measured_of}
-use Rattle.unescape.specs.declared.body.Measured.TheVariants.{Stopped, Whole}
 
 -- what is measured from here on gives what is measured from the start
 pub record Measuring (form : Form) (s : List ℕ) (at count : ℕ) : Type 0 where
@@ -40,8 +41,8 @@ measured_on : (form : Form) (c k : ℕ) (l : List ℕ) (a b : Body) → items_by
 unfolding measured_of
 measured_on form c k l a b w e h =
     by_ending b.ending
-    (λ z. rw (e ∙ z, z, measured_of) (ap Whole (omega (arith, ap length w, length-append l (items_bytes form b.items)))))
-    (λ number start end z. rw (e ∙ z, z, measured_of))
+    (λ z. rw (e ∙ z, z, measured_of) (ap Ok (omega (arith, ap length w, length-append l (items_bytes form b.items)))))
+    (λ reason start end z. rw (e ∙ z, z, measured_of))
 
 module _ (form : Form) (s : List ℕ) (at count : ℕ) (i : Measuring form s at count) where
   pub measuring_next : (r : ℕ) (l : List ℕ) (k : ℕ) → Stretch form s at r l → k ≡ length l → Measuring form s r (count + k)
@@ -60,13 +61,13 @@ module _ (form : Form) (s : List ℕ) (at count : ℕ) (i : Measuring form s at 
   pub measuring_run : {b : Bool} {r : ℕ} → b ≡ is_bytes form → r ≡ at + length (plain_end b (drop at s)) → Measuring form s r (count + (r - at))
   measuring_run {b} {r} q e = measuring_next r (plain_end b (drop at s)) (r - at) (stretch_run form s at i.sound b q r e) (omega arith)
 
-  pub measured_end : length s ≤ at → Whole count ≡ measured_of form 0 (body_at form s 0)
+  pub measured_end : length s ≤ at → Ok count ≡ measured_of form 0 (body_at form s 0)
   unfolding measured_of items_bytes
-  measured_end h = sym (ap (measured_of form count) (body_end form s at (rest_end s at h)) ∙ ap Whole (omega arith)) ∙ i.same
+  measured_end h = sym (ap (measured_of form count) (body_end form s at (rest_end s at h)) ∙ ap Ok (omega arith)) ∙ i.same
 
-  pub measured_bad : (number m : ℕ) → body_at form s at ≡ no_more (fault number at m) → Stopped number at m ≡ measured_of form 0 (body_at form s 0)
+  pub measured_bad : (reason : Reason) (m : ℕ) → body_at form s at ≡ no_more (fault reason at m) → refused_at reason at m ≡ measured_of form 0 (body_at form s 0)
   unfolding measured_of
-  measured_bad number m h = sym (ap (measured_of form count) h) ∙ i.same
+  measured_bad reason m h = sym (ap (measured_of form count) h) ∙ i.same
 
 -- what is written from here on gives what is written from the start, and there is room for it
 pub record Writing (form : Form) (s out₀ out : List ℕ) (at n : ℕ) : Type 0 where
@@ -87,8 +88,8 @@ module _ (form : Form) (s out₀ out : List ℕ) (at n : ℕ) (i : Writing form 
   written_end h = sym (ap (λ (b : Body). sets out n (items_bytes form b.items)) (body_end form s at (rest_end s at h))) ∙ i.same
 
   -- a body that is written has no fault
-  pub written_bad {ℓ} : {X : Type ℓ} (number m : ℕ) → body_at form s at ≡ no_more (fault number at m) → X
-  written_bad number m h = never (let z = ap (λ (b : Body). b.ending) h in let y = i.faultless in cc)
+  pub written_bad {ℓ} : {X : Type ℓ} (reason : Reason) (m : ℕ) → body_at form s at ≡ no_more (fault reason at m) → X
+  written_bad reason m h = never (let z = ap (λ (b : Body). b.ending) h in let y = i.faultless in cc)
 
   module _ (r : ℕ) (l : List ℕ) (g : Stretch form s at r l) where
     more : length (items_bytes form (body_at form s at).items) ≡ length l + length (items_bytes form (body_at form s r).items)
@@ -166,8 +167,8 @@ module _ (form : Form) (s : List ℕ) (at n : ℕ) (i : Counting form s at n) wh
   counted_end e = omega (arith, i.same, ap (λ (b : Body). length b.items) (body_end form s at e))
 
   module _ (v m : ℕ) (t : Step s at v m) (e : Escape) (q : e ≡ item_of form v (rest s m) m) where
-    pub counted_bad : (number k : ℕ) → e ≡ Bad number k → n ≡ length (body_at form s 0).items
-    counted_bad number k h = omega (arith, i.same, ap (λ (b : Body). length b.items) (body_bad form s at v m t e q number k h))
+    pub counted_bad : (reason : Reason) (k : ℕ) → e ≡ Bad reason k → n ≡ length (body_at form s 0).items
+    counted_bad reason k h = omega (arith, i.same, ap (λ (b : Body). length b.items) (body_bad form s at v m t e q reason k h))
 
     pub counting_item : (x k : ℕ) → e ≡ Item x k → Counting form s k (n + 1)
     counting_item x k h =

@@ -1,4 +1,6 @@
 -- From one place of a body to another: the bytes that it gives between them. A run gives its bytes as they stand. Assumes nothing.
+use Rattle.token.specs.declared.reason.Reason.{Reason}
+use Rattle.token.specs.declared.reason.Reason.TheVariants.{NotAscii}
 use Prim.Native.Nat.{ℕ, zero, suc, ◌+◌, ◌≤◌, ◌<◌}
 use mathlib.Core.Path.{◌≡◌, refl, sym, ap, ◌∙◌, subst}
 use mathlib.Core.List.{List, [], ◌∷◌, ◌++◌, append_assoc}
@@ -87,8 +89,8 @@ module _ (form : Form) (s : List ℕ) (p : ℕ) (h : p < length s) (d : after (r
   pub begun_skipped : (m : ℕ) → e ≡ Skipped m → Stretch form s p m []
   begun_skipped m k = begun (λ v n t g. stretch_skipped form s p v n t e g m k)
 
-  pub begun_bad : (number m : ℕ) → e ≡ Bad number m → body_at form s p ≡ no_more (fault number p m)
-  begun_bad number m k = begun (λ v n t g. body_bad form s p v n t e g number m k)
+  pub begun_bad : (reason : Reason) (m : ℕ) → e ≡ Bad reason m → body_at form s p ≡ no_more (fault reason p m)
+  begun_bad reason m k = begun (λ v n t g. body_bad form s p v n t e g reason m k)
 
 -- .. all of it at once
 pub record Begun (form : Form) (s : List ℕ) (p : ℕ) (e : Escape) : Type 0 where
@@ -97,7 +99,7 @@ pub record Begun (form : Form) (s : List ℕ) (p : ℕ) (e : Escape) : Type 0 wh
   pub byte : (x m : ℕ) → e ≡ Item x m → is_bytes form ≡ true → x ≤ 0xff
   pub item : (x m : ℕ) → e ≡ Item x m → Stretch form s p m (item_bytes form x)
   pub skipped : (m : ℕ) → e ≡ Skipped m → Stretch form s p m []
-  pub bad : (number m : ℕ) → e ≡ Bad number m → body_at form s p ≡ no_more (fault number p m)
+  pub bad : (reason : Reason) (m : ℕ) → e ≡ Bad reason m → body_at form s p ≡ no_more (fault reason p m)
 
 pub begun_here : (form : Form) (s : List ℕ) (p : ℕ) → p < length s → after (rest s p) p ≡ length s → (e : Escape) → e ≡ begins_of form (rest s p) p → Begun form s p e
 begun_here form s p h d e q =
@@ -158,7 +160,7 @@ module _ (form : Form) (s : List ℕ) where
       (λ k.
       let low : is_bytes form ≡ true → v ≤ 0x7f =
       λ b. split_le v 0x7f (λ l. l)
-      (λ l. never (let z = ap (λ (y : Body). y.ending) (body_bad form s p v n t (Bad 25 n) (item_high form v (rest s n) n k b l) 25 n refl) in let y = w b in cc)) in
+      (λ l. never (let z = ap (λ (y : Body). y.ending) (body_bad form s p v n t (Bad NotAscii n) (item_high form v (rest s n) n k b l) NotAscii n refl) in let y = w b in cc)) in
       let a = stretch_plain p v n t k low in
       let e = bare_scalar s p v n t k in
       let few : length (bare_of (drop n s)) ≤ f = omega (arith, ap length e, length-append (encode_of v) (bare_of (drop n s)), encode_length v (step_is_scalar s p v n t), t.next, t.past) in

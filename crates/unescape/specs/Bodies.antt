@@ -1,5 +1,7 @@
 -- Document 01, "Escapes": a whole body, the bytes that it gives, and its refusals in their order.
-use Rattle.std.specs.Prelude.{ℕ, ◌+◌, List, [], ◌∷◌, ◌++◌, Bool, true, false, not, ltb, eqb, length}
+use Rattle.std.specs.Prelude.{Err, Ok, ℕ, ◌+◌, List, [], ◌∷◌, ◌++◌, Bool, true, false, not, ltb, eqb, length}
+use Rattle.token.specs.declared.reason.Reason.{Reason}
+use Rattle.token.specs.declared.reason.Reason.TheVariants.{NotOneItem, OutputShort}
 use Rattle.escapes.specs.declared.Escape.{Escape}
 use Rattle.escapes.specs.declared.Escape.TheVariants.{Bad, Item, Skipped}
 use Rattle.items.specs.Items.{is_single, item_bytes, item_of}
@@ -7,15 +9,13 @@ use Rattle.items.specs.declared.Form.{Form}
 use Rattle.laws.specs.Bools.{pick}
 use Rattle.source_test.specs.Source.{after_test, source_test}
 use Rattle.text.specs.Utf8.{rest, width}
-use Rattle.token.specs.Reads.{span_of}
+use Rattle.token.specs.Reads.{span_of, Counted}
 use Rattle.token.specs.declared.read.Refusal.{Refusal}
-use Rattle.unescape.specs.declared.body.Unescaped.{Unescaped}
-use Rattle.unescape.specs.declared.body.Unescaped.TheVariants.{Refused, Wrote}
 
--- how the items end: with the body, or at the first of 20 to 25, with its number and span
+-- how the items end: with the body, or at the first of 20 to 25, with its reason and span
 pub data Ending : Type 0 where
   whole : Ending
-  fault : ℕ → ℕ → ℕ → Ending
+  fault : Reason → ℕ → ℕ → Ending
 
 -- the items of a body (scalars, or bytes in the byte forms) before its end or its first fault
 pub record Body : Type 0 where
@@ -32,7 +32,7 @@ also x b = record { items = x ∷ b.items; ending = b.ending }
 unfoldable pub item_turn : ℕ → Escape → (ℕ → Body) → Body
 item_turn p (Item x n) go = also x (go n)
 item_turn p (Skipped n) go = go n
-item_turn p (Bad number n) go = no_more (fault number p n)
+item_turn p (Bad reason n) go = no_more (fault reason p n)
 
 -- the body of the scalars cs, the first of which stands at p; those before t are passed over
 unfoldable pub body_of : Form → ℕ → List ℕ → ℕ → Body
@@ -49,26 +49,26 @@ items_bytes form (x ∷ l) = item_bytes form x ++ items_bytes form l
 
 -- an answer, and the bytes that are written from the output's first on
 pub record Result : Type 0 where
-  pub answer : Unescaped
+  pub answer : Counted
   pub bytes : List ℕ
 
 -- the number of bytes written is the answer
 abbrev pub wrote : List ℕ → Result
-wrote l = record { answer = Wrote (length l); bytes = l }
+wrote l = record { answer = Ok (length l); bytes = l }
 
 -- a refusal writes nothing
 abbrev pub refuse_with : Refusal → Result
-refuse_with r = record { answer = Refused r; bytes = [] }
+refuse_with r = record { answer = Err r; bytes = [] }
 
 -- .. and reaches its span's end
-abbrev pub refusal_at : ℕ → ℕ → ℕ → Refusal
-refusal_at number start end = record { number = number; span = span_of start end; reached = end }
+abbrev pub refusal_at : Reason → ℕ → ℕ → Refusal
+refusal_at reason start end = record { reason = reason; span = span_of start end; reached = end }
 
-abbrev pub refused_at : ℕ → ℕ → ℕ → Unescaped
-refused_at number start end = Refused (refusal_at number start end)
+abbrev pub refused_at : Reason → ℕ → ℕ → Counted
+refused_at reason start end = Err (refusal_at reason start end)
 
-abbrev pub refuse : ℕ → ℕ → ℕ → Result
-refuse number start end = refuse_with (refusal_at number start end)
+abbrev pub refuse : Reason → ℕ → ℕ → Result
+refuse reason start end = refuse_with (refusal_at reason start end)
 
 -- 27: a char or byte body that gives other than one item
 abbrev pub wrong_count : Form → ℕ → Bool
@@ -76,10 +76,10 @@ wrong_count form n = pick (is_single form) (not (eqb n 1)) false
 
 -- the earliest of 20 to 25; then 27, then 26, with the whole body as span
 unfoldable pub judge : Form → ℕ → ℕ → List ℕ → Ending → Result
-judge form size room l (fault number start end) = refuse number start end
+judge form size room l (fault reason start end) = refuse reason start end
 judge form size room l whole =
-    pick (wrong_count form (length l)) (refuse 27 0 size)
-    (pick (ltb room (length (items_bytes form l))) (refuse 26 0 size) (wrote (items_bytes form l)))
+    pick (wrong_count form (length l)) (refuse NotOneItem 0 size)
+    (pick (ltb room (length (items_bytes form l))) (refuse OutputShort 0 size) (wrote (items_bytes form l)))
 
 unfoldable pub unescaped_of : Form → List ℕ → ℕ → Result
 unescaped_of form s room =

@@ -1,18 +1,17 @@
 -- A body as the code measures it before it writes. It serves the proofs and is no rule of document 01.
-use Rattle.std.specs.Prelude.{ℕ, ◌+◌, ◌≤◌, ◌≡◌, List, length}
+use Rattle.std.specs.Prelude.{Ok, ℕ, ◌+◌, ◌≤◌, ◌≡◌, List, length}
 use Rattle.items.specs.declared.Form.{Form}
 use Rattle.source_test.specs.Source.{sound_to}
 use Rattle.text.specs.Utf8.{rest}
-use Rattle.unescape.specs.Bodies.{Body, body_of, fault, items_bytes, whole}
-use Rattle.unescape.specs.declared.body.Measured.{Measured}
-use Rattle.unescape.specs.declared.body.Measured.TheVariants.{Stopped, Whole}
+use Rattle.token.specs.Reads.{Counted}
+use Rattle.unescape.specs.Bodies.{Body, body_of, fault, items_bytes, refused_at, whole}
 
 -- how many bytes, or the first fault
-unfoldable pub measured_of : Form → ℕ → Body → Measured
+unfoldable pub measured_of : Form → ℕ → Body → Counted
 measured_of form count b =
     elim b.ending [
-      | whole ↦ Whole (count + length (items_bytes form b.items))
-      | fault number start end ↦ Stopped number start end
+      | whole ↦ Ok (count + length (items_bytes form b.items))
+      | fault reason start end ↦ refused_at reason start end
     ]
 
 -- what is known of a body before it is written: well-formed, without a fault, and with room enough

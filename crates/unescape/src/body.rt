@@ -8,45 +8,21 @@ ghost use Rattle.source_test.specs.Source.{sound_to};
 ghost use Rattle.text.specs.Utf8.{rest};
 ghost use Rattle.unescape.specs.Bodies.{body_of, items_bytes, refused_at, unescape_of, unescaped_of, wrong_count};
 ghost use Rattle.unescape.specs.Measures.{Writable, measured_of};
-ghost use Rattle.unescape.specs.declared.body.Measured.{Measured};
-ghost use Rattle.unescape.specs.declared.body.Measured.TheVariants.{Stopped};
 
 use crate::long::long_at;
 use encoding::Encoded;
 use escapes::Escape;
-use items::{Form, is_bytes, is_single, is_template, item_at};
+use items::{Form, item_at};
 use runs::{begin_at, escaped_at, run_end, short_escape, short_limit};
-use source_test::Tested;
 use text::Scalar;
-use token::refusal::{NOT_ONE_ITEM, OUTPUT_SHORT};
-use token::{Refusal, Span};
-
-// How many bytes were written, or why none.
-#[derive(Drop)]
-pub enum Unescaped {
-    Wrote { count: usize },
-    Refused { refusal: Refusal },
-}
-
-// How many bytes the items of a body take, or its first fault.
-#[derive(Drop)]
-enum Measured {
-    Whole {
-        count: usize,
-    },
-    Stopped {
-        number: u32,
-        start: usize,
-        end: usize,
-    },
-}
+use token::{Reason, Refusal, Span};
 
 // The bytes of an item.
 fn item_bytes(form: Form, item: u32) -> Encoded
     requires { is_bytes form ≡ true → item ≤ 0xff }
     ensures { result ≡ padded (item_bytes form item) }
 {
-    if is_bytes(form) {
+    if form.is_bytes() {
         let bytes = [item as u8, 0, 0, 0];
         return Encoded { len: 1, bytes };
     }
@@ -62,43 +38,48 @@ fn item_len(form: Form, item: u32) -> usize
     encoded.len
 }
 
-fn stopped(number: u32, start: usize, end: usize) -> Measured
-    ensures { result ≡ Measured.Stopped number start end }
+fn refuse(reason: Reason, start: usize, end: usize) -> Result<usize, Refusal>
+    ensures { result ≡ refused_at reason start end }
 {
-    Measured::Stopped { number, start, end }
+    Err(Refusal {
+        reason,
+        span: Span { start, end },
+        reached: end,
+    })
 }
 
-// Run by run, and what stands between two runs: an escape of two bytes first, since most are such, then those by value.
-fn measure(s: &[u8], form: Form) -> Measured
+// How many bytes the items of a body take, or its first fault. Run by run, and what stands between two runs: an escape of two bytes first, since most
+// are such, then those by value.
+fn measure(s: &[u8], form: Form) -> Result<usize, Refusal>
     requires { sound_to s.now ≡ length s.now }
     ensures { result ≡ measured_of form 0 (body_of form 0 (rest s.now 0) 0) }
 {
-    let bytes = is_bytes(form);
-    let limit = short_limit(is_template(form));
+    let bytes = form.is_bytes();
+    let limit = short_limit(form.is_template());
     let mut at: usize = 0;
     let mut count: usize = 0;
     loop {
         let p = run_end(s, at, bytes);
-        count = count + (p - at);
+        count += p - at;
         if s.len() <= p {
-            return Measured::Whole { count };
+            return Ok(count);
         }
         if short_escape(escaped_at(s, p)) < limit {
-            count = count + 1;
+            count += 1;
             at = p + 2;
         } else {
             let long = long_at(s, p, form);
             if 0 < long {
-                count = count + item_len(form, long / 16);
+                count += item_len(form, long / 16);
                 at = p + (long % 16) as usize;
             } else {
                 match begin_at(s, p, form) {
                     Escape::Item { value, next } => {
-                        count = count + item_len(form, value);
+                        count += item_len(form, value);
                         at = next;
                     }
                     Escape::Skipped { next } => at = next,
-                    Escape::Bad { number, next } => return stopped(number, p, next),
+                    Escape::Bad { reason, next } => return refuse(reason, p, next),
                 }
             }
         }
@@ -141,7 +122,8 @@ fn put_item(out: &mut [u8], n: usize, form: Form, item: u32) -> usize
     len
 }
 
-// The bytes before the next backslash, to the place n on; the backslash's place, or the end.
+// The bytes before the next backslash, to the place n on; the backslash's place, or the end. Both places by hand: what only copies would become a call
+// of C's memcpy.
 fn copy_run(s: &[u8], at: usize, out: &mut [u8], n: usize) -> usize
     requires { n + length (bare_of (drop at s.now)) ≤ length out.old }
     ensures end { result ≡ at + length (bare_of (drop at s.now)) }
@@ -155,8 +137,8 @@ fn copy_run(s: &[u8], at: usize, out: &mut [u8], n: usize) -> usize
             return p;
         }
         out[m] = b;
-        p = p + 1;
-        m = m + 1;
+        p += 1;
+        m += 1;
     }
     p
 }
@@ -166,48 +148,36 @@ fn write_items(s: &[u8], form: Form, out: &mut [u8])
     requires { Writable form s.now (length out.old) }
     ensures { out.new ≡ sets out.old 0 (items_bytes form (body_of form 0 (rest s.now 0) 0).items) }
 {
-    let limit = short_limit(is_template(form));
+    let limit = short_limit(form.is_template());
     let mut at: usize = 0;
     let mut n: usize = 0;
     loop {
         let p = copy_run(s, at, out, n);
-        n = n + (p - at);
+        n += p - at;
         if s.len() <= p {
             return;
         }
         let short = short_escape(escaped_at(s, p));
         if short < limit {
             out[n] = short % 128 - 1;
-            n = n + 1;
+            n += 1;
             at = p + 2;
         } else {
             let long = long_at(s, p, form);
             if 0 < long {
-                n = n + put_item(out, n, form, long / 16);
+                n += put_item(out, n, form, long / 16);
                 at = p + (long % 16) as usize;
             } else {
                 match begin_at(s, p, form) {
                     Escape::Item { value, next } => {
-                        n = n + put_item(out, n, form, value);
+                        n += put_item(out, n, form, value);
                         at = next;
                     }
                     Escape::Skipped { next } => at = next,
-                    Escape::Bad { number: _, next: _ } => return,
+                    Escape::Bad { .. } => return,
                 }
             }
         }
-    }
-}
-
-fn refuse(number: u32, start: usize, end: usize) -> Unescaped
-    ensures { result ≡ refused_at number start end }
-{
-    Unescaped::Refused {
-        refusal: Refusal {
-            number,
-            span: Span { start, end },
-            reached: end,
-        },
     }
 }
 
@@ -217,7 +187,7 @@ fn count_items(s: &[u8], form: Form) -> usize
     let mut at: usize = 0;
     let mut n: usize = 0;
     loop {
-        let Scalar::One { value, next } = text::scalar_at(s, at) else {
+        let Some(Scalar { value, next }) = text::scalar_at(s, at) else {
             return n;
         };
         match item_at(s, form, value, next) {
@@ -225,15 +195,11 @@ fn count_items(s: &[u8], form: Form) -> usize
                 value: _,
                 next: end,
             } => {
-                n = n + 1;
+                n += 1;
                 at = end;
             }
-            Escape::Skipped { next: end } => {
-                at = end;
-            }
-            Escape::Bad { number: _, next: _ } => {
-                return n;
-            }
+            Escape::Skipped { next: end } => at = end,
+            Escape::Bad { .. } => return n,
         }
     }
 }
@@ -242,40 +208,30 @@ fn count_items(s: &[u8], form: Form) -> usize
 fn wrong_count(s: &[u8], form: Form) -> bool
     ensures { result ≡ wrong_count form (length (body_of form 0 (rest s.now 0) 0).items) }
 {
-    if is_single(form) {
-        count_items(s, form) != 1
-    } else {
-        false
-    }
+    form.is_single() && count_items(s, form) != 1
 }
 
 // A body that is well-formed.
-fn unescape_sound(body: &[u8], form: Form, out: &mut [u8]) -> Unescaped
+fn unescape_sound(body: &[u8], form: Form, out: &mut [u8]) -> Result<usize, Refusal>
     requires { sound_to body.now ≡ length body.now }
     ensures answer { result ≡ (unescaped_of form body.now (length out.old)).answer }
     ensures bytes { out.new ≡ sets out.old 0 (unescaped_of form body.now (length out.old)).bytes }
 {
-    match measure(body, form) {
-        Measured::Stopped { number, start, end } => refuse(number, start, end),
-        Measured::Whole { count } => {
-            if wrong_count(body, form) {
-                return refuse(NOT_ONE_ITEM, 0, body.len());
-            }
-            if out.len() < count {
-                return refuse(OUTPUT_SHORT, 0, body.len());
-            }
-            write_items(body, form, out);
-            Unescaped::Wrote { count }
-        }
+    let count = measure(body, form)?;
+    if wrong_count(body, form) {
+        return refuse(Reason::NotOneItem, 0, body.len());
     }
+    if out.len() < count {
+        return refuse(Reason::OutputShort, 0, body.len());
+    }
+    write_items(body, form, out);
+    Ok(count)
 }
 
-pub fn unescape(body: &[u8], form: Form, out: &mut [u8]) -> Unescaped
+pub fn unescape(body: &[u8], form: Form, out: &mut [u8]) -> Result<usize, Refusal>
     ensures answer { result ≡ (unescape_of form body.now (length out.old)).answer }
     ensures bytes { out.new ≡ sets out.old 0 (unescape_of form body.now (length out.old)).bytes }
 {
-    match source_test::test_source(body) {
-        Tested::Sound => unescape_sound(body, form, out),
-        Tested::Unsound { refusal } => Unescaped::Refused { refusal },
-    }
+    source_test::test_source(body)?;
+    unescape_sound(body, form, out)
 }

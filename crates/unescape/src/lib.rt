@@ -4,5 +4,5 @@
 mod body;
 mod long;
 
-pub use body::{Unescaped, unescape};
+pub use body::unescape;
 pub use items::Form;

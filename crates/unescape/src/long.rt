@@ -1,38 +1,14 @@
 // The escapes \x and \u by value, in one number. They only save time: 0 says nothing, and then `begin_at` is asked.
+// With an answer through memory escapes cost 1.8 of the Rust's instructions, and so at most 0.97 (docs/SPEED.md).
 ghost use Rattle.std.specs.Prelude.{◌+◌, ◌/◌, ◌≤◌};
 ghost use Rattle.escapes.specs.Escapes.{hex_of, unicode_of};
 ghost use Rattle.runs.specs.Runs.{begins_of};
 ghost use Rattle.text.specs.Utf8.{rest};
-ghost use Rattle.unescape.specs.Longs.{Closed, Hex, Packed};
+ghost use Rattle.unescape.specs.Longs.{Closed, Packed};
 
-use items::{Form, is_bytes};
+use classes::hex_value;
+use items::Form;
 use runs::escaped_at;
-
-// What a hex digit stands for; 16: the byte is none.
-fn hex_digit(b: u8) -> u32
-    ensures { Hex b result }
-{
-    let v = b as u32;
-    if v < 0x30 {
-        return 16;
-    }
-    if v <= 0x39 {
-        return v - 0x30;
-    }
-    if v < 0x41 {
-        return 16;
-    }
-    if v <= 0x46 {
-        return v - 0x41 + 10;
-    }
-    if v < 0x61 {
-        return 16;
-    }
-    if v <= 0x66 {
-        return v - 0x61 + 10;
-    }
-    16
-}
 
 // The escape at a place as \x with two hex digits that stand for no more than `most`, in one number; 0: it is none.
 fn hex_at(s: &[u8], at: usize, most: u32) -> u32
@@ -44,14 +20,12 @@ fn hex_at(s: &[u8], at: usize, most: u32) -> u32
     if s.len() - at < 4 {
         return 0;
     }
-    let a = hex_digit(s[at + 2]);
-    if 15 < a {
+    let Some(a) = hex_value(u32::from(s[at + 2])) else {
         return 0;
-    }
-    let b = hex_digit(s[at + 3]);
-    if 15 < b {
+    };
+    let Some(b) = hex_value(u32::from(s[at + 3])) else {
         return 0;
-    }
+    };
     let x = a * 16 + b;
     if most < x {
         return 0;
@@ -73,42 +47,32 @@ fn unicode_at(s: &[u8], at: usize) -> u32
     if s[at + 2] != 0x7b {
         return 0;
     }
-    let mut i: usize = 3;
-    let mut some = false;
-    let mut x: u32 = 0;
-    while i < left {
+    let mut x: Option<u32> = None;
+    for i in 3..left {
         let v = s[at + i];
         if v == 0x7d {
-            return unicode_closed(some, x, i);
+            return unicode_closed(x, i);
         }
-        let d = hex_digit(v);
-        if 15 < d {
+        let Some(d) = hex_value(u32::from(v)) else {
+            return 0;
+        };
+        let before = x.unwrap_or(0);
+        if 0xfffff < before {
             return 0;
         }
-        if 0xfffff < x {
-            return 0;
-        }
-        some = true;
-        x = x * 16 + d;
-        i = i + 1;
+        x = Some(before * 16 + d);
     }
     0
 }
 
-// The number x after its digits; `some` says whether there was one, and the brace is i bytes after the backslash.
-fn unicode_closed(some: bool, x: u32, i: usize) -> u32
-    ensures { Closed some x i result }
+// The number x after its digits, if there was one; the brace is i bytes after the backslash.
+fn unicode_closed(x: Option<u32>, i: usize) -> u32
+    ensures { Closed x i result }
 {
-    if !some {
-        return 0;
+    match x {
+        Some(x) if i <= 14 && encoding::is_scalar(x) => x * 16 + (i as u32) + 1,
+        _ => 0,
     }
-    if 14 < i {
-        return 0;
-    }
-    if !encoding::is_scalar(x) {
-        return 0;
-    }
-    x * 16 + (i as u32) + 1
 }
 
 // What \x or \u at a place gives, in one number; 0: it is neither of them, or a fault. By value: `begin_at` answers through memory.
@@ -116,7 +80,7 @@ pub(crate) fn long_at(s: &[u8], at: usize, form: Form) -> u32
     ensures { Packed at (begins_of form (rest s.now at) at) result }
 {
     let v = escaped_at(s, at);
-    if is_bytes(form) {
+    if form.is_bytes() {
         if v == 0x78 {
             return hex_at(s, at, 0xff);
         }

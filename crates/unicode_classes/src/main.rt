@@ -6,84 +6,43 @@ ghost use Rattle.std.specs.Prelude.{◌+◌, ◌≤◌};
 
 use std::io::Stdout;
 
-#[derive(Clone, Copy, Drop)]
-enum Class {
-    White,
-    Control,
-    Digit,
-    Hex,
-    Start,
-    Continue,
-}
-
-fn print_name(to: Stdout, class: Class) {
-    let _ = match class {
-        Class::White => to.print("white "),
-        Class::Control => to.print("control "),
-        Class::Digit => to.print("digit "),
-        Class::Hex => to.print("hex "),
-        Class::Start => to.print("start "),
-        Class::Continue => to.print("continue "),
-    };
-}
-
-fn is_member(class: Class, v: u32) -> bool {
-    match class {
-        Class::White => classes::is_whitespace(v),
-        Class::Control => classes::is_control(v),
-        Class::Digit => classes::is_ascii_digit(v),
-        Class::Hex => classes::is_ascii_hexdigit(v),
-        Class::Start => classes::is_xid_start(v),
-        Class::Continue => classes::is_xid_continue(v),
-    }
-}
-
-fn print_run(to: Stdout, class: Class, start: u32, last: u32) {
-    print_name(to, class);
-    let _ = println!(to; "{start:x} {last:x}");
-}
-
 // Prints the runs among the numbers from `low` to `high`; the answer is how many of them are members.
-fn walk(to: Stdout, class: Class, low: u32, high: u32) -> u64
+fn walk<F: Fn(u32) -> bool>(to: Stdout, name: &str, is_member: &F, low: u32, high: u32) -> u64
+    requires { F.IsAlwaysCallable is_member.now }
     ensures { result ≤ high + 1 }
 {
     let mut count: u64 = 0;
-    let mut inside = false;
-    let mut start = low;
-    let mut last = low;
+    let mut run: Option<(u32, u32)> = None;
     for v in low..=high {
-        if is_member(class, v) {
-            if !inside {
-                start = v;
-            }
-            inside = true;
-            last = v;
+        if is_member(v) {
             count += 1;
-        } else {
-            if inside {
-                print_run(to, class, start, last);
-            }
-            inside = false;
+            let start = run.map_or(v, |(start, _)| start);
+            run = Some((start, v));
+        } else if let Some((start, last)) = run.take() {
+            let _ = println!(to; "{name} {start:x} {last:x}");
         }
     }
-    if inside {
-        print_run(to, class, start, last);
+    if let Some((start, last)) = run {
+        let _ = println!(to; "{name} {start:x} {last:x}");
     }
     count
 }
 
-fn list(to: Stdout, class: Class) {
-    let count = walk(to, class, 0, 0x11ffff) + walk(to, class, 0xffffff00, 0xffffffff);
-    print_name(to, class);
-    let _ = println!(to; "count {count}");
+fn list<F: Fn(u32) -> bool + Drop>(to: Stdout, name: &str, is_member: F)
+    requires { F.IsAlwaysCallable is_member }
+{
+    let low = walk(to, name, &is_member, 0, 0x11ffff);
+    let high = walk(to, name, &is_member, 0xffffff00, 0xffffffff);
+    let count = low + high;
+    let _ = println!(to; "{name} count {count}");
 }
 
 fn main(rt: HostRuntime) {
     let to = rt.stdout();
-    list(to, Class::White);
-    list(to, Class::Control);
-    list(to, Class::Digit);
-    list(to, Class::Hex);
-    list(to, Class::Start);
-    list(to, Class::Continue);
+    list(to, "white", |v| classes::is_whitespace(v));
+    list(to, "control", |v| classes::is_control(v));
+    list(to, "digit", |v| classes::is_ascii_digit(v));
+    list(to, "hex", |v| classes::is_ascii_hexdigit(v));
+    list(to, "start", |v| classes::is_xid_start(v));
+    list(to, "continue", |v| classes::is_xid_continue(v));
 }

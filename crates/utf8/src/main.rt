@@ -2,97 +2,65 @@
 // What it must print is what Rust's core::str::from_utf8 gave for the same sequences in the same order; rust/utf8-verdicts wrote that down.
 #![tactic(auto)]
 
-use source_test::Tested;
-use std::io::Stdout;
-
 // What the later bytes of a sequence of four run over: the ends of the ranges of RFC 3629, section 4, and their neighbours.
 const SECOND: [u8; 10] = [0x00, 0x7f, 0x80, 0x8f, 0x90, 0x9f, 0xa0, 0xbf, 0xc0, 0xff];
 
 const LATER: [u8; 6] = [0x00, 0x7f, 0x80, 0xbf, 0xc0, 0xff];
 
 // The sum has for each ill-formed sequence its number among the tested ones, times one more than the place of the fault.
-#[derive(Drop)]
+#[derive(Clone, Copy, Default)]
 struct Tally {
     tested: u32,
     good: u32,
     sum: u32,
 }
 
-// The product by additions: the library's wrapping operations have no product.
-fn add_weighted(sum: u32, number: u32, fault: usize) -> u32 {
-    let mut total = sum;
-    for _ in 0..=fault {
-        total = std::num::wrapping_add_u32(total, number);
-    }
-    total
-}
-
-// No sequence here is over-long and no position is asked for: the last two answers count nothing.
-fn test(tally: Tally, s: &[u8]) -> Tally {
-    let tested = std::num::wrapping_add_u32(tally.tested, 1);
-    let good = tally.good;
-    let sum = tally.sum;
-    match source_test::test_source(s) {
-        Tested::Sound => Tally {
-            tested,
-            good: std::num::wrapping_add_u32(good, 1),
-            sum,
-        },
-        Tested::Unsound { refusal } => Tally {
-            tested,
-            good,
-            sum: add_weighted(sum, tested, refusal.span.start),
-        },
-    }
-}
-
-fn test_two(tally: Tally, lead: u8) -> Tally {
-    let mut tally = tally;
-    for second in 0..=255 {
-        tally = test(tally, &[lead, second]);
-    }
-    tally
-}
-
-fn test_three(tally: Tally, lead: u8) -> Tally {
-    let mut tally = tally;
-    for second in 0..=255 {
-        for third in 0..=255 {
-            tally = test(tally, &[lead, second, third]);
-        }
-    }
-    tally
-}
-
-fn test_four(tally: Tally, lead: u8) -> Tally {
-    let mut tally = tally;
-    for i in 0..10 {
-        for j in 0..6 {
-            for k in 0..6 {
-                tally = test(tally, &[lead, SECOND[i], LATER[j], LATER[k]]);
+impl Tally {
+    fn test(&mut self, s: &[u8]) {
+        self.tested = self.tested.wrapping_add(1);
+        match source_test::test_source(s) {
+            Ok(()) => self.good = self.good.wrapping_add(1),
+            Err(refusal) => {
+                let place = u32::try_from(refusal.span.start).unwrap_or(u32::MAX);
+                let weight = place.wrapping_add(1);
+                self.sum = self.sum.wrapping_add(self.tested.wrapping_mul(weight));
             }
         }
     }
-    tally
-}
 
-fn print_line(to: Stdout, lead: u8, tally: Tally) {
-    let good = tally.good;
-    let sum = tally.sum;
-    let _ = println!(to; "{lead} {good} {sum}");
+    fn test_two(&mut self, lead: u8) {
+        for second in 0..=255 {
+            self.test(&[lead, second]);
+        }
+    }
+
+    fn test_three(&mut self, lead: u8) {
+        for second in 0..=255 {
+            for third in 0..=255 {
+                self.test(&[lead, second, third]);
+            }
+        }
+    }
+
+    fn test_four(&mut self, lead: u8) {
+        for second in SECOND {
+            for third in LATER {
+                for fourth in LATER {
+                    self.test(&[lead, second, third, fourth]);
+                }
+            }
+        }
+    }
 }
 
 fn main(rt: HostRuntime) {
     let to = rt.stdout();
     for lead in 0..=255 {
-        let none = Tally {
-            tested: 0,
-            good: 0,
-            sum: 0,
-        };
-        let one = test(none, &[lead]);
-        let two = test_two(one, lead);
-        let three = test_three(two, lead);
-        print_line(to, lead, test_four(three, lead));
+        let mut tally = Tally::default();
+        tally.test(&[lead]);
+        tally.test_two(lead);
+        tally.test_three(lead);
+        tally.test_four(lead);
+        let _ = println!(to; "{lead} {} {}", tally.good, tally.sum);
     }
 }

@@ -2,134 +2,187 @@
 // Written by tools/texts.py from texts.txt: change that table. Every function is safe and ends; what it puts no contract says.
 #![tactic(auto)]
 
-use buffer::page::{Page, put_label};
+use buffer::Page;
 
-// The row of a number in the texts below.
-fn row_of(number: u32) -> usize {
-    match number {
-        1 => 0,
-        2 => 1,
-        3 => 2,
-        4 => 3,
-        5 => 4,
-        6 => 5,
-        10 => 6,
-        11 => 7,
-        12 => 8,
-        13 => 9,
-        14 => 10,
-        15 => 11,
-        16 => 12,
-        17 => 13,
-        18 => 14,
-        19 => 15,
-        60 => 16,
-        61 => 17,
-        160 => 18,
-        161 => 19,
-        62 => 20,
-        63 => 21,
-        64 => 22,
-        65 => 23,
-        _ => 24,
-    }
+// By number, as the rows of texts.txt are.
+#[derive(Clone, Copy)]
+struct Wording {
+    number: u32,
+    name: &'static str,
+    what: &'static str,
+    cure: &'static str,
 }
 
-pub fn put_name(out: Page, number: u32) -> Page {
-    put_label(
-        out,
-        b"too-long\n\
-        ill-formed\n\
-        no-room\n\
-        no-place\n\
-        no-such-form\n\
-        no-such-reading\n\
-        expected-escape\n\
-        unterminated-char-lit\n\
-        expected-char-close\n\
-        expected-char-or-label\n\
-        expected-byte-close\n\
-        unterminated-byte-lit\n\
-        unterminated-str-lit\n\
-        unterminated-byte-str-lit\n\
-        unexpected-char\n\
-        too-deep\n\
-        comment-runs-on\n\
-        comment-runs-on\n\
-        template-runs-on\n\
-        template-runs-on\n\
-        read-as-code\n\
-        comment-unclosed\n\
-        template-unclosed\n\
-        byte-order-mark\n\
-        unknown",
-        b'\n',
-        row_of(number),
-    )
+const UNKNOWN: Wording = Wording {
+    number: 0,
+    name: "unknown",
+    what: "unknown",
+    cure: "unknown",
+};
+
+const WORDINGS: [Wording; 24] = [
+    Wording {
+        number: 1,
+        name: "too-long",
+        what: "the source is over 65,536 bytes",
+        cure: "split it",
+    },
+    Wording {
+        number: 2,
+        name: "ill-formed",
+        what: "the source is not UTF-8 from here on",
+        cure: "save it as UTF-8",
+    },
+    Wording {
+        number: 3,
+        name: "no-room",
+        what: "the lent memory is full",
+        cure: "lend more",
+    },
+    Wording {
+        number: 4,
+        name: "no-place",
+        what: "the place is past the end or inside a character",
+        cure: "begin where a token ended",
+    },
+    Wording {
+        number: 5,
+        name: "no-such-form",
+        what: "the number names no form of a body",
+        cure: "give 1 to 5",
+    },
+    Wording {
+        number: 6,
+        name: "no-such-reading",
+        what: "the number names no reading",
+        cure: "give 1 or 2",
+    },
+    Wording {
+        number: 10,
+        name: "expected-escape",
+        what: "the source ends after a backslash",
+        cure: "finish the escape and close the literal",
+    },
+    Wording {
+        number: 11,
+        name: "unterminated-char-lit",
+        what: "a control character stands in a char",
+        cure: "close the char before it, or write an escape",
+    },
+    Wording {
+        number: 12,
+        name: "expected-char-close",
+        what: "a char is empty",
+        cure: "put a character between its quotes",
+    },
+    Wording {
+        number: 13,
+        name: "expected-char-or-label",
+        what: "the source ends after a single quote",
+        cure: "write a char or a label",
+    },
+    Wording {
+        number: 14,
+        name: "expected-byte-close",
+        what: "the source ends in a byte",
+        cure: "close it with a single quote",
+    },
+    Wording {
+        number: 15,
+        name: "unterminated-byte-lit",
+        what: "a control character stands in a byte",
+        cure: "close the byte before it, or write an escape",
+    },
+    Wording {
+        number: 16,
+        name: "unterminated-str-lit",
+        what: "the source ends in a string",
+        cure: "close it with a quote",
+    },
+    Wording {
+        number: 17,
+        name: "unterminated-byte-str-lit",
+        what: "the source ends in a byte string",
+        cure: "close it with a quote",
+    },
+    Wording {
+        number: 18,
+        name: "unexpected-char",
+        what: "no token begins with this character",
+        cure: "take it out, or put it in a string or a comment",
+    },
+    Wording {
+        number: 19,
+        name: "too-deep",
+        what: "a 65th template is opened within templates",
+        cure: "take one out into a variable",
+    },
+    Wording {
+        number: 60,
+        name: "comment-runs-on",
+        what: "this comment does not end where it seems to",
+        cure: "write `/*  */` with two blanks, or use `//`",
+    },
+    Wording {
+        number: 61,
+        name: "comment-runs-on",
+        what: "this comment does not end where it seems to",
+        cure: "write `/*  */` with two blanks, or use `//`",
+    },
+    Wording {
+        number: 160,
+        name: "template-runs-on",
+        what: "this template does not end where it seems to",
+        cure: "take the comment after the backslash out of the template",
+    },
+    Wording {
+        number: 161,
+        name: "template-runs-on",
+        what: "this template does not end where it seems to",
+        cure: "take the comment after the backslash out of the template",
+    },
+    Wording {
+        number: 62,
+        name: "read-as-code",
+        what: "this is in force, though it looks like a comment",
+        cure: "mend the comment before it that runs on",
+    },
+    Wording {
+        number: 63,
+        name: "comment-unclosed",
+        what: "nothing closes this comment",
+        cure: "close it with `*/`",
+    },
+    Wording {
+        number: 64,
+        name: "template-unclosed",
+        what: "nothing closes this template",
+        cure: "close it with a backtick",
+    },
+    Wording {
+        number: 65,
+        name: "byte-order-mark",
+        what: "the file begins with a byte order mark, and rune refuses it",
+        cure: "save the file as UTF-8 without a byte order mark",
+    },
+];
+
+fn row_of(number: u32) -> Wording {
+    WORDINGS
+        .iter()
+        .find(|wording| wording.number == number)
+        .copied()
+        .unwrap_or(UNKNOWN)
 }
 
-pub fn put_what(out: Page, number: u32) -> Page {
-    put_label(
-        out,
-        b"the source is over 65,536 bytes\n\
-        the source is not UTF-8 from here on\n\
-        the lent memory is full\n\
-        the place is past the end or inside a character\n\
-        the number names no form of a body\n\
-        the number names no reading\n\
-        the source ends after a backslash\n\
-        a control character stands in a char\n\
-        a char is empty\n\
-        the source ends after a single quote\n\
-        the source ends in a byte\n\
-        a control character stands in a byte\n\
-        the source ends in a string\n\
-        the source ends in a byte string\n\
-        no token begins with this character\n\
-        a 65th template is opened within templates\n\
-        this comment does not end where it seems to\n\
-        this comment does not end where it seems to\n\
-        this template does not end where it seems to\n\
-        this template does not end where it seems to\n\
-        this is in force, though it looks like a comment\n\
-        nothing closes this comment\n\
-        nothing closes this template\n\
-        the file begins with a byte order mark, and rune refuses it\n\
-        unknown",
-        b'\n',
-        row_of(number),
-    )
+pub fn put_name(out: &mut Page, number: u32) {
+    out.put_bytes(row_of(number).name.as_bytes());
 }
 
-pub fn put_cure(out: Page, number: u32) -> Page {
-    put_label(
-        out,
-        b"split it\n\
-        save it as UTF-8\n\
-        lend more\n\
-        begin where a token ended\n\
-        give 1 to 5\n\
-        give 1 or 2\n\
-        finish the escape and close the literal\n\
-        close the char before it, or write an escape\n\
-        put a character between its quotes\n\
-        write a char or a label\n\
-        close it with a single quote\n\
-        close the byte before it, or write an escape\n\
-        close it with a quote\n\
-        close it with a quote\n\
-        take it out, or put it in a string or a comment\n\
-        take one out into a variable\n\
-        write `/*  */` with two blanks, or use `//`\n\
-        write `/*  */` with two blanks, or use `//`\n\
-        take the comment after the backslash out of the template\n\
-        take the comment after the backslash out of the template\n\
-        mend the comment before it that runs on\n\
-        close it with `*/`\n\
-        close it with a backtick\n\
-        save the file as UTF-8 without a byte order mark\n\
-        unknown",
-        b'\n',
-        row_of(number),
-    )
+pub fn put_what(out: &mut Page, number: u32) {
+    out.put_bytes(row_of(number).what.as_bytes());
+}
+
+pub fn put_cure(out: &mut Page, number: u32) {
+    out.put_bytes(row_of(number).cure.as_bytes());
 }

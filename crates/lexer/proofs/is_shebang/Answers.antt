@@ -7,10 +7,10 @@ pub returns-in_default : goal.returns-in_default
 returns-in_default c = bang_end c.args.s.now (step_none c.args.s.now 0 (sym c.scalar_at.ensures ∙ c.in_default.is))
 
 pub returns-then-first-ne-HASH : goal.returns-then-first-ne-HASH
-returns-then-first-ne-HASH c = bang_other c.args.s.now c.in-One.first c.in-One.next (step_one c.args.s.now 0 c.in-One.first c.in-One.next (sym c.scalar_at.ensures ∙ c.in-One.is)) c.if-first-ne-HASH.true
+returns-then-first-ne-HASH c = bang_other c.args.s.now c.in-Some.field-0.value c.in-Some.field-0.next (step_one c.args.s.now 0 c.in-Some.field-0.value c.in-Some.field-0.next (sym c.scalar_at.ensures ∙ c.in-Some.is)) c.if-first-ne-HASH.true
 
 pub returns-in_default-scalar_at : goal.returns-in_default-scalar_at
-returns-in_default-scalar_at c = bang_cut c.args.s.now c.in-One.first c.in-One.next (step_one c.args.s.now 0 c.in-One.first c.in-One.next (sym c.scalar_at.ensures ∙ c.in-One.is)) c.if-first-ne-HASH.false (step_none c.args.s.now c.in-One.next (sym c.scalar_at-2.ensures ∙ c.in_default-scalar_at.is))
+returns-in_default-scalar_at c = bang_cut c.args.s.now c.in-Some.field-0.value c.in-Some.field-0.next (step_one c.args.s.now 0 c.in-Some.field-0.value c.in-Some.field-0.next (sym c.scalar_at.ensures ∙ c.in-Some.is)) c.if-first-ne-HASH.false (step_none c.args.s.now c.in-Some.field-0.next (sym c.scalar_at-2.ensures ∙ c.in_default-scalar_at.is))
 
 pub returns : goal.returns
-returns c = bang_second c.args.s.now c.in-One.first c.in-One.next (step_one c.args.s.now 0 c.in-One.first c.in-One.next (sym c.scalar_at.ensures ∙ c.in-One.is)) c.if-first-ne-HASH.false _ _ (step_one c.args.s.now c.in-One.next c.in-One-scalar_at.second c.in-One-scalar_at.next (sym c.scalar_at-2.ensures ∙ c.in-One-scalar_at.is))
+returns c = bang_second c.args.s.now c.in-Some.field-0.value c.in-Some.field-0.next (step_one c.args.s.now 0 c.in-Some.field-0.value c.in-Some.field-0.next (sym c.scalar_at.ensures ∙ c.in-Some.is)) c.if-first-ne-HASH.false _ _ (step_one c.args.s.now c.in-Some.field-0.next c.in-Some-scalar_at.field-0.value c.in-Some-scalar_at.field-0.next (sym c.scalar_at-2.ensures ∙ c.in-Some-scalar_at.is))

@@ -8,7 +8,7 @@ use Rattle.readers.specs.declared.reading.Reading.{Reading}
 use Rattle.puffsatchel.proofs.puffsatchel_findings.Goals as goal
 
 pub returns-in_default : goal.returns-in_default
-returns-in_default c = left_none c.args.reading (λ (g : Reading). of_listed (findings_of g c.args.source.now (length c.args.store.now))) _ _ (λ (g : Reading). stored_findings g c.args.source.now (length c.args.store.now)) c.args.store.now _ (sym c.in_default.is ∙ c.reading_of.ensures) (tells _ _ _ _ c.tell.ensures c.point.ensures) refl
+returns-in_default c = left_none c.args.reading (λ (g : Reading). of_listed (findings_of g c.args.source.now (length c.args.store.now))) _ _ (λ (g : Reading). stored_findings g c.args.source.now (length c.args.store.now)) c.args.store.now _ (sym c.in_default.is ∙ c.reading_of.ensures) c.no_such_reading.ensures refl
 
 pub returns : goal.returns
-returns c = left_one c.args.reading (λ (g : Reading). of_listed (findings_of g c.args.source.now (length c.args.store.now))) _ _ (λ (g : Reading). stored_findings g c.args.source.now (length c.args.store.now)) c.args.store.now _ c.in-OneReading.known (sym c.in-OneReading.is ∙ c.reading_of.ensures) (tells _ _ _ _ c.tell-2.ensures (c.of_listed.ensures ∙ ap of_listed c.findings-found.ensures.0)) c.findings-found.ensures.1
+returns c = left_one c.args.reading (λ (g : Reading). of_listed (findings_of g c.args.source.now (length c.args.store.now))) _ _ (λ (g : Reading). stored_findings g c.args.source.now (length c.args.store.now)) c.args.store.now _ c.in-Some.known (sym c.in-Some.is ∙ c.reading_of.ensures) (tells _ _ _ _ c.tell.ensures (c.from.ensures ∙ ap of_listed c.findings.ensures.0)) c.findings.ensures.1

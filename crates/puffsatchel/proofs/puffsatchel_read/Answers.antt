@@ -7,7 +7,7 @@ use Rattle.readers.specs.declared.reading.Reading.{Reading}
 use Rattle.puffsatchel.proofs.puffsatchel_read.Goals as goal
 
 pub returns-in_default : goal.returns-in_default
-returns-in_default c = told_none c.args.reading (λ (g : Reading). of_read (read_at g c.args.source.now c.args.at)) _ _ (sym c.in_default.is ∙ c.reading_of.ensures) (tells _ _ _ _ c.tell.ensures c.point.ensures)
+returns-in_default c = told_none c.args.reading (λ (g : Reading). of_read (read_at g c.args.source.now c.args.at)) _ _ (sym c.in_default.is ∙ c.reading_of.ensures) c.no_such_reading.ensures
 
 pub returns : goal.returns
-returns c = told_one c.args.reading (λ (g : Reading). of_read (read_at g c.args.source.now c.args.at)) _ _ c.in-OneReading.known (sym c.in-OneReading.is ∙ c.reading_of.ensures) (tells _ _ _ _ c.tell-2.ensures (c.of_read.ensures ∙ ap of_read c.read.ensures))
+returns c = told_one c.args.reading (λ (g : Reading). of_read (read_at g c.args.source.now c.args.at)) _ _ c.in-Some.known (sym c.in-Some.is ∙ c.reading_of.ensures) (tells _ _ _ _ c.tell.ensures (c.from.ensures ∙ ap of_read c.read.ensures))

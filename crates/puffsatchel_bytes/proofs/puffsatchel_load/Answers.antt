@@ -1,7 +1,7 @@
 use mathlib.Core.Path.{ap, ◌∙◌}
-use Rattle.answers.specs.Told.{of_stored}
+use Rattle.answers.specs.Told.{of_counted}
 use Rattle.answers.proofs.Promises.{tells}
 use Rattle.puffsatchel_bytes.proofs.puffsatchel_load.Goals as goal
 
 pub returns : goal.returns
-returns c = let w = tells _ _ _ _ c.tell.ensures (c.of_stored.ensures ∙ ap of_stored c.read-loaded.ensures.0) in (w.0, c.read-loaded.ensures.1, w.1)
+returns c = let w = tells _ _ _ _ c.tell.ensures (c.from.ensures ∙ ap of_counted c.read.ensures.0) in (w.0, c.read.ensures.1, w.1)

@@ -1,7 +1,7 @@
 use mathlib.Core.Path.{ap, ◌∙◌}
-use Rattle.answers.specs.Told.{of_stored}
+use Rattle.answers.specs.Told.{of_counted}
 use Rattle.answers.proofs.Promises.{tells}
 use Rattle.puffsatchel_bytes.proofs.puffsatchel_store.Goals as goal
 
 pub returns : goal.returns
-returns c = let w = tells _ _ _ _ c.tell.ensures (c.of_stored.ensures ∙ ap of_stored c.write-written.ensures.0) in (w.0, c.write-written.ensures.1, w.1)
+returns c = let w = tells _ _ _ _ c.tell.ensures (c.from.ensures ∙ ap of_counted c.write.ensures.0) in (w.0, c.write.ensures.1, w.1)

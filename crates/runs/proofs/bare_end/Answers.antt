@@ -1,6 +1,7 @@
 use mathlib.Core.Path.{refl, ap}
 use native.Mathlib.Omega.{arith}
 use lib.ListN.{length}
+use Rattle.laws.proofs.Cases.{split_le}
 use Rattle.runs.proofs.Runs.{bare_end, bare_next, bare_stop}
 use Rattle.runs.proofs.bare_end.Goals as goal
 
@@ -14,4 +15,6 @@ pub loop-p-preserved : goal.loop-p-preserved
 loop-p-preserved c = omega (arith, ap length (bare_next c.args.s.now c.loop-p.p c.loop-p-test.true c.if-s-p-eq92.false), c.loop-p.invariant)
 
 pub returns : goal.returns
-returns c = omega (arith, ap length (bare_end c.args.s.now c.loop-p.p c.loop-p-test.false), c.loop-p.invariant)
+returns c =
+    split_le c.args.at (length c.args.s.now) (λ l. omega (arith, c.loop-p.auto.p-end l, ap length (bare_end c.args.s.now c.loop-p.p c.loop-p-test.false), c.loop-p.invariant))
+    (λ l. omega (arith, ap length (bare_end c.args.s.now c.args.at (omega arith))))

@@ -3,4 +3,4 @@ use Rattle.std.proofs.Common.{◌≤◌}
 use Rattle.unicode_classes.proofs.walk.Given as goal
 
 abbrev pub invariant-loop-v : goal.invariant-loop-v
-invariant-loop-v l = (l.count ≤ l.v) × (l.count ≤ l.high)
+invariant-loop-v g l = (l.count ≤ l.v) × (l.count ≤ l.high)

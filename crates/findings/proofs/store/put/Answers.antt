@@ -1,3 +1,7 @@
+use Prim.Native.Nat.{ℕ}
+use mathlib.Core.Path.{ap, ◌∙◌}
+use mathlib.Core.List.{[], ◌∷◌}
+use lib.Seq.{sets}
 use native.Mathlib.Omega.{arith}
 use lib.ListN.{length-set}
 use Rattle.findings.proofs.Stores.{put_five}
@@ -16,4 +20,4 @@ pub bounds-store-n-5 : goal.bounds-store-n-5
 bounds-store-n-5 c = simp length-set (omega arith)
 
 pub returns : goal.returns
-returns c = put_five c.args.store.now c.args.n c.args.f.code c.args.f.start c.args.f.end c.args.f.from c.args.f.to
+returns c = put_five c.args.store.now c.args.n c.from.result c.args.f.start c.args.f.end c.args.f.from c.args.f.to ∙ ap (λ (k : ℕ). sets c.args.store.now c.args.n (k ∷ (c.args.f.start ∷ (c.args.f.end ∷ (c.args.f.from ∷ (c.args.f.to ∷ [])))))) c.from.ensures

@@ -4,13 +4,10 @@ use Rattle.findings.specs.InStep.{parts_of}
 use Rattle.findings.proofs.walk.parts.Goals as goal
 
 pub returns-then-n-eq16 : goal.returns-then-n-eq16
-returns-then-n-eq16 c = parts_template c.in-Got.token c.number_of-n.result c.number_of-n.ensures c.if-n-eq16.true ∙ sym (ap parts_of c.in-Got.is)
+returns-then-n-eq16 c = parts_template c.in-Ok.token c.number_of-n.result c.number_of-n.ensures c.if-n-eq16.true ∙ sym (ap parts_of c.in-Ok.is)
 
 pub returns-then-n-lt3 : goal.returns-then-n-lt3
-returns-then-n-lt3 c = parts_low c.in-Got.token c.number_of-n.result c.number_of-n.ensures c.if-n-eq16.false c.if-n-lt3.true ∙ sym (ap parts_of c.in-Got.is)
+returns-then-n-lt3 c = parts_low c.in-Ok.token c.number_of-n.result c.number_of-n.ensures c.if-n-eq16.false c.if-n-lt3.true ∙ sym (ap parts_of c.in-Ok.is)
 
 pub returns-else-n-lt3 : goal.returns-else-n-lt3
-returns-else-n-lt3 c = parts_rest c.in-Got.token c.number_of-n.result c.number_of-n.ensures c.if-n-eq16.false c.if-n-lt3.false ∙ sym (ap parts_of c.in-Got.is)
-
-pub returns-in-Refused : goal.returns-in-Refused
-returns-in-Refused c = sym (ap parts_of c.in-Refused.is)
+returns-else-n-lt3 c = parts_rest c.in-Ok.token c.number_of-n.result c.number_of-n.ensures c.if-n-eq16.false c.if-n-lt3.false ∙ sym (ap parts_of c.in-Ok.is)

@@ -8,4 +8,4 @@ returns-then-nums-eq0 c = rw (eq-eqb c.args.nums.held_len 0 c.if-nums-eq0.true)
 
 pub returns : goal.returns
 unfolding less_held
-returns c = rw (ne_eqb c.args.nums.held_len 0 c.if-nums-eq0.false, c.slot8.ensures)
+returns c = rw (ne_eqb c.args.nums.held_len 0 c.if-nums-eq0.false, c.slot.ensures)

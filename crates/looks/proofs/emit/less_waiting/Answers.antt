@@ -3,4 +3,4 @@ use Rattle.looks.proofs.emit.less_waiting.Goals as goal
 
 pub returns : goal.returns
 unfolding less_waiting
-returns c = rw c.slot256.ensures
+returns c = rw c.slot.ensures

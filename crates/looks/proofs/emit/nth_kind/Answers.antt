@@ -1,5 +1,6 @@
-use Prim.Native.Nat.{ℕ, ◌+◌, ◌%◌}
+use Prim.Native.Nat.{ℕ, ◌+◌}
 use mathlib.Core.Path.{ap, ◌∙◌}
+use Prim.Native.Nat.{◌%◌}
 use lib.ListN.{get_or}
 use borrow.Author.Tests.{le-ltb, lt-ltb}
 use Rattle.looks.specs.Front.{nth_words}
@@ -8,8 +9,8 @@ use Rattle.looks.proofs.emit.nth_kind.Goals as goal
 
 pub returns-then-n-wide : goal.returns-then-n-wide
 unfolding nth_words
-returns-then-n-wide c = rw (lt-ltb c.args.n (get_or c.args.nums.now 3 0) (rw c.wide.ensures.0 at c.if-n-wide.true)) (c.kind_at.ensures ∙ ap (λ (s : ℕ). kind_at c.args.list.now (get_or c.args.held.now s 0)) (c.slot8.ensures ∙ ap (λ (k : ℕ). (k + c.args.n) % 8) c.wide-then-n-wide.ensures.0))
+returns-then-n-wide c = rw (lt-ltb c.args.n (get_or c.args.state.now.nums 3 0) (rw c.wide.ensures.0 at c.if-n-wide.true)) (c.kind_at.ensures ∙ ap (λ (s : ℕ). kind_at c.args.list.now (get_or c.args.state.now.held s 0)) (c.slot.ensures ∙ ap (λ (k : ℕ). (k + c.args.n) % 8) c.wide-then-n-wide.ensures.0))
 
 pub returns : goal.returns
 unfolding nth_words
-returns c = rw (le-ltb c.args.n (get_or c.args.nums.now 3 0) (rw c.wide.ensures.0 at c.if-n-wide.false))
+returns c = rw (le-ltb c.args.n (get_or c.args.state.now.nums 3 0) (rw c.wide.ensures.0 at c.if-n-wide.false))

@@ -1,6 +1,6 @@
 use mathlib.Core.Path.{sym, ◌∙◌}
 use native.Mathlib.Omega.{arith}
-use borrow.Author.Tests.{eq-eqb, ne_eqb, not-false, not-true}
+use borrow.Author.Tests.{eq-eqb, ne_eqb}
 use Rattle.looks.specs.Calls.{array_refusal}
 use Rattle.looks.proofs.emits.array_refusal.Goals as goal
 
@@ -10,8 +10,8 @@ returns-then-n-gt0 c = rw (ne_eqb c.args.n 0 (λ z. omega (arith, c.if-n-gt0.tru
 
 pub returns-then-not-sound : goal.returns-then-not-sound
 unfolding array_refusal
-returns-then-not-sound c = rw (eq-eqb c.args.n 0 (omega (arith, c.if-n-gt0.false)), sym c.sound.ensures ∙ not-true _ c.if-not-sound.true-raw)
+returns-then-not-sound c = rw (eq-eqb c.args.n 0 (omega (arith, c.if-n-gt0.false)), sym c.sound.ensures.0 ∙ c.if-not-sound.true)
 
 pub returns : goal.returns
 unfolding array_refusal
-returns c = rw (eq-eqb c.args.n 0 (omega (arith, c.if-n-gt0.false)), sym c.sound.ensures ∙ not-false _ c.if-not-sound.false-raw)
+returns c = rw (eq-eqb c.args.n 0 (omega (arith, c.if-n-gt0.false)), sym c.sound.ensures.0 ∙ c.if-not-sound.false)

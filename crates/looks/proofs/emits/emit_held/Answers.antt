@@ -1,28 +1,51 @@
+use Prim.Native.Nat.{ℕ, ◌+◌, ◌-◌, ◌*◌}
+use mathlib.Core.Path.{◌≡◌, sym, ap, ◌∙◌, subst}
 use native.Mathlib.Omega.{arith}
-use Rattle.looks.proofs.Advances.{advancing_end, advancing_first, advancing_more, advancing_room}
-use Rattle.looks.specs.Buffer.{nums_of, state_of}
+use Prim.Native.Nat.{◌<◌}
+use mathlib.Core.List.{◌++◌}
+use lib.Seq.{sets}
+use Rattle.looks.proofs.Advances.{Advancing, advancing_end, advancing_more, advancing_room}
+use Rattle.looks.specs.Buffer.{State, nums_of, ring_at, view_of, words_of}
+use Rattle.looks.specs.Calls.{with_nums}
+use Rattle.looks.specs.Front.{less_held, less_waiting, nth_of, wait_words}
+use Rattle.ahead.specs.declared.Nums.{Nums}
 use Rattle.looks.proofs.emits.emit_held.Goals as goal
 
-pub loop-left-init : goal.loop-left-init
-loop-left-init c = advancing_first c.args.list.now c.args.n (state_of (nums_of c.args.nums.now) c.args.held.now c.args.counts.now c.args.waiting.now) c.args.out.now c.requires.0 c.requires.1 c.requires.2
-
 pub emit_front-requires : goal.emit_front-requires
-emit_front-requires c = advancing_room c.args.list.now c.args.n (state_of (nums_of c.args.nums.now) c.args.held.now c.args.counts.now c.args.waiting.now) c.args.out.now c.loop-left.out (nums_of c.loop-left.nums) c.loop-left.at c.loop-left.left c.loop-left.invariant c.loop-left-test.true _ c.count_before-white.ensures
+emit_front-requires c =
+    let st = view_of c.args.state.now in
+    let now = c.loop.state in
+    let m = nums_of now.nums in
+    let rings = c.loop.invariant.1 in
+    let left = c.args.n - c.loop.counter in
+    let go = c.loop-test.true in
+    let more : 0 < left = omega arith in
+    let white = c.count_before-white.ensures ∙ ap (λ (f : State). ring_at 8 f.counts m.held_at 0) rings in
+    advancing_room c.args.list.now c.args.n st c.args.out.now c.loop.out m c.loop.at left c.loop.invariant.0 more _ white
 
-pub overflow_mul-at : goal.overflow_mul-at
-overflow_mul-at c = omega (arith, advancing_room c.args.list.now c.args.n (state_of (nums_of c.args.nums.now) c.args.held.now c.args.counts.now c.args.waiting.now) c.args.out.now c.loop-left.out (nums_of c.loop-left.nums) c.loop-left.at c.loop-left.left c.loop-left.invariant c.loop-left-test.true _ c.count_before-white.ensures, c.loop-left.invariant.same, c.well_formed, c.wide.ensures)
-
-pub overflow_add-at : goal.overflow_add-at
-overflow_add-at c = omega (arith, advancing_room c.args.list.now c.args.n (state_of (nums_of c.args.nums.now) c.args.held.now c.args.counts.now c.args.waiting.now) c.args.out.now c.loop-left.out (nums_of c.loop-left.nums) c.loop-left.at c.loop-left.left c.loop-left.invariant c.loop-left-test.true _ c.count_before-white.ensures, c.loop-left.invariant.same, c.well_formed, c.wide.ensures)
-
-pub overflow_add-at-in-loop-left : goal.overflow_add-at-in-loop-left
-overflow_add-at-in-loop-left c = omega (arith, advancing_room c.args.list.now c.args.n (state_of (nums_of c.args.nums.now) c.args.held.now c.args.counts.now c.args.waiting.now) c.args.out.now c.loop-left.out (nums_of c.loop-left.nums) c.loop-left.at c.loop-left.left c.loop-left.invariant c.loop-left-test.true _ c.count_before-white.ensures, c.loop-left.invariant.same, c.well_formed, c.wide.ensures)
-
-pub loop-left-preserved : goal.loop-left-preserved
-loop-left-preserved c = rw c.wide.ensures.0 (advancing_more c.args.list.now c.args.n (state_of (nums_of c.args.nums.now) c.args.held.now c.args.counts.now c.args.waiting.now) c.args.out.now c.loop-left.out (nums_of c.loop-left.nums) c.loop-left.at c.loop-left.left c.loop-left.invariant c.loop-left-test.true _ c.count_before-white.ensures _ _ _ c.nth_words-words.ensures c.emit_front.ensures.0 c.emit_front.ensures.1)
-
-pub shape_of-out : goal.shape_of-out
-shape_of-out c = c.loop-left.invariant.same
+pub loop-preserved : goal.loop-preserved
+loop-preserved c =
+    let st = view_of c.args.state.now in
+    let now = c.loop.state in
+    let m = nums_of now.nums in
+    let rings = c.loop.invariant.1 in
+    let left = c.args.n - c.loop.counter in
+    let go = c.loop-test.true in
+    let more : 0 < left = omega arith in
+    let white = c.count_before-white.ensures ∙ ap (λ (f : State). ring_at 8 f.counts m.held_at 0) rings in
+    let e : left - 1 ≡ c.args.n - (c.loop.counter + 1) = omega arith in
+    let x = less_held (less_waiting c.count_before-white.result m) in
+    let words = c.nth_words-words.ensures ∙ ap (nth_of c.args.list.now 0) rings in
+    let em = ap (λ (f : State). f.nums) c.emit_front.ensures.0 in
+    let eo = c.emit_front.ensures.1 ∙ ap (λ (f : State). sets c.loop.out c.loop.at (wait_words c.count_before-white.result c.args.list.now f.waiting m.wait_at ++ words_of c.nth_words-words.result)) rings in
+    rw c.wide.ensures.0 (subst (λ (k : ℕ). Advancing c.args.list.now c.args.n st c.args.out.now c.emit_front.new.out (nums_of c.emit_front.new.state.nums) (c.loop.at + (c.count_before-white.result * 3 + 3)) k) e (advancing_more c.args.list.now c.args.n st c.args.out.now c.loop.out m c.loop.at left c.loop.invariant.0 more _ white _ _ _ words em eo), c.emit_front.ensures.0 ∙ ap (with_nums x) rings ∙ ap (λ (k : Nums). with_nums k st) (sym em))
 
 pub returns : goal.returns
-returns c = advancing_end c.args.list.now c.args.n (state_of (nums_of c.args.nums.now) c.args.held.now c.args.counts.now c.args.waiting.now) c.args.out.now c.loop-left.out (nums_of c.loop-left.nums) c.loop-left.at c.loop-left.left c.loop-left.invariant c.loop-left-test.false
+returns c =
+    let st = view_of c.args.state.now in
+    let now = c.loop.state in
+    let m = nums_of now.nums in
+    let rings = c.loop.invariant.1 in
+    let left = c.args.n - c.loop.counter in
+    let w = advancing_end c.args.list.now c.args.n st c.args.out.now c.loop.out m c.loop.at left c.loop.invariant.0 (let h = c.loop-test.false in omega arith) in
+    (rings ∙ w.0, w.1)

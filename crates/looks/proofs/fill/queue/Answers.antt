@@ -1,9 +1,6 @@
 use mathlib.Core.Path.{sym, ◌∙◌}
-use Rattle.looks.proofs.Gathers.{queued_first, queued_more, queued_none}
+use Rattle.looks.proofs.Gathers.{queued_more, queued_none}
 use Rattle.looks.proofs.fill.queue.Goals as goal
-
-pub loop-i-init : goal.loop-i-init
-loop-i-init c = queued_first _ c.args.at c.args.from c.args.count
 
 pub loop-i-preserved : goal.loop-i-preserved
 loop-i-preserved c = rw c.wide.ensures.0 (sym (queued_more _ c.args.at c.args.from c.args.count c.loop-i.i c.loop-i-test.true) ∙ c.loop-i.invariant)

@@ -5,6 +5,3 @@ use Rattle.looks.proofs.fill.queue.Given as goal
 
 abbrev pub invariant-loop-i : goal.invariant-loop-i
 invariant-loop-i l = queued (l.count - l.i) l.waiting (l.at + l.i) (l.«from» + l.i) ≡ queued l.count l.initial.waiting l.at l.«from»
-
-abbrev pub decreases-loop-i : goal.decreases-loop-i
-decreases-loop-i l = l.count - l.i

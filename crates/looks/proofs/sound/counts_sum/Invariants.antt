@@ -5,6 +5,3 @@ use Rattle.looks.proofs.sound.counts_sum.Given as goal
 
 abbrev pub invariant-loop-i : goal.invariant-loop-i
 invariant-loop-i l = (l.sum ≤ l.i * 4294967295) × (l.sum + count_sum l.counts (l.count - l.i) (l.at + l.i) ≡ count_sum l.counts l.count l.at)
-
-abbrev pub decreases-loop-i : goal.decreases-loop-i
-decreases-loop-i l = l.count - l.i

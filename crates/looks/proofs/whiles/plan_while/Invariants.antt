@@ -4,7 +4,7 @@ use Rattle.looks.specs.While.{Plannable, tokens_left}
 use Rattle.looks.proofs.whiles.plan_while.Given as goal
 
 abbrev pub invariant-loop-front : goal.invariant-loop-front
-invariant-loop-front l = Plannable l.list l.m l.held l.counts × Turns l.list l.kind l.held l.counts l.initial.m l.m l.count
+invariant-loop-front l = Plannable l.list l.m l.state.held l.state.counts × Turns l.list l.kind l.state.held l.state.counts l.initial.m l.m l.count
 
 abbrev pub decreases-loop-front : goal.decreases-loop-front
 decreases-loop-front l = tokens_left l.list l.m

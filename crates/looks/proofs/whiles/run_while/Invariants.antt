@@ -1,11 +1,11 @@
 -- The invariant: the run from here on, after what is stored, is the whole run. Assumes nothing.
 use Rattle.looks.proofs.Running.{Runs}
-use Rattle.looks.specs.Buffer.{nums_of, state_of}
+use Rattle.looks.specs.Buffer.{nums_of, view_of}
 use Rattle.looks.specs.While.{tokens_left}
 use Rattle.looks.proofs.whiles.run_while.Given as goal
 
-abbrev pub invariant-loop-nums : goal.invariant-loop-nums
-invariant-loop-nums l = Runs l.list l.kind (state_of (nums_of l.initial.nums) l.initial.held l.initial.counts l.initial.waiting) l.initial.out l.out (state_of (nums_of l.nums) l.held l.counts l.waiting) l.at
+abbrev pub invariant-loop-state : goal.invariant-loop-state
+invariant-loop-state l = Runs l.list l.kind (view_of l.initial.state) l.initial.out l.out (view_of l.state) l.at
 
-abbrev pub decreases-loop-nums : goal.decreases-loop-nums
-decreases-loop-nums l = tokens_left l.list (nums_of l.nums)
+abbrev pub decreases-loop-state : goal.decreases-loop-state
+decreases-loop-state l = tokens_left l.list (nums_of l.state.nums)

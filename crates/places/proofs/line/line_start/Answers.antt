@@ -1,13 +1,19 @@
-use mathlib.Core.Path.{sym, ◌∙◌}
-use native.Mathlib.Omega.{arith}
-use Rattle.places.proofs.Counts.{start_back, start_here, start_none}
+-- What a search back found is the last LF. Assumes nothing.
+use Rattle.std.proofs.Common.{◌+◌, ◌∙◌, ap, get_or, rules, sym, tests}
+use Rattle.std.proofs.lemmas.Iterator.Search.{find_from_yields_List}
+use Rattle.std.specs.Option.{option_map_or}
+use Rattle.places.proofs.Last.{start_found, yields_down}
+use Rattle.places.specs.Lines.{is_feed}
 use Rattle.places.proofs.line.line_start.Goals as goal
 
-pub returns-then-byte_at-eq10 : goal.returns-then-byte_at-eq10
-returns-then-byte_at-eq10 c = sym (start_here c.args.s.now c.loop-i.i (omega arith) (sym c.byte_at.ensures ∙ c.if-byte_at-eq10.true)) ∙ c.loop-i.invariant
+pub returns-in-Some : goal.returns-in-Some
+returns-in-Some c =
+    ap (λ o. option_map_or (λ i. i + 1) o 0) (sym c.in-Some.is)
+    ∙ start_found c.args.s.now c.args.at c.find-feed.result
+    (find_from_yields_List (λ i. is_feed (get_or c.args.s.now i 0)) _ _ c.find-feed.result c.find-feed.ensures.ran (yields_down c.rev.result c.args.at c.rev.ensures.source) (λ x b q k. search (rules, tests)))
 
-pub loop-i-preserved : goal.loop-i-preserved
-loop-i-preserved c = start_back c.args.s.now c.loop-i.i (omega arith) (λ e. c.if-byte_at-eq10.false (c.byte_at.ensures ∙ e)) ∙ c.loop-i.invariant
-
-pub returns : goal.returns
-returns c = sym (start_none c.args.s.now c.loop-i.i (omega arith)) ∙ c.loop-i.invariant
+pub returns-in-None : goal.returns-in-None
+returns-in-None c =
+    ap (λ o. option_map_or (λ i. i + 1) o 0) (sym c.in-None.is)
+    ∙ start_found c.args.s.now c.args.at c.find-feed.result
+    (find_from_yields_List (λ i. is_feed (get_or c.args.s.now i 0)) _ _ c.find-feed.result c.find-feed.ensures.ran (yields_down c.rev.result c.args.at c.rev.ensures.source) (λ x b q k. search (rules, tests)))

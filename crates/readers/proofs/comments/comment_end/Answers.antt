@@ -21,10 +21,10 @@ pub loop-p-preserved-else-byte_at-eq47 : goal.loop-p-preserved-else-byte_at-eq47
 loop-p-preserved-else-byte_at-eq47 c = comment_bare c.args.s.now c.loop-p.p (sym c.byte_at.ensures ∙ c.if-byte_at-eq42.true) (λ e. c.if-byte_at-eq47.false (c.byte_at-then-byte_at-eq42.ensures ∙ e)) ∙ c.loop-p.invariant
 
 pub loop-p-smaller : goal.loop-p-smaller
-loop-p-smaller c = let t = (step_one c.args.s.now c.loop-p.p _ _ (sym c.scalar_at.ensures ∙ c.in-One.is)) in omega arith
+loop-p-smaller c = let t = (step_one c.args.s.now c.loop-p.p _ _ (sym c.scalar_at.ensures ∙ c.in-Some.is)) in omega arith
 
 pub loop-p-preserved : goal.loop-p-preserved
-loop-p-preserved c = comment_more c.args.s.now c.loop-p.p _ _ (step_one c.args.s.now c.loop-p.p _ _ (sym c.scalar_at.ensures ∙ c.in-One.is)) (λ e. c.if-byte_at-eq42.false (c.byte_at.ensures ∙ e)) ∙ c.loop-p.invariant
+loop-p-preserved c = comment_more c.args.s.now c.loop-p.p _ _ (step_one c.args.s.now c.loop-p.p _ _ (sym c.scalar_at.ensures ∙ c.in-Some.is)) (λ e. c.if-byte_at-eq42.false (c.byte_at.ensures ∙ e)) ∙ c.loop-p.invariant
 
 pub returns-then-byte_at-eq47 : goal.returns-then-byte_at-eq47
 returns-then-byte_at-eq47 c = comment_close c.args.s.now c.loop-p.p (sym c.byte_at.ensures ∙ c.if-byte_at-eq42.true) (sym c.byte_at-then-byte_at-eq42.ensures ∙ c.if-byte_at-eq47.true) ∙ c.loop-p.invariant

@@ -8,4 +8,4 @@ use Rattle.readers.proofs.comments.next_multiline_comment.Goals as goal
 
 pub returns : goal.returns
 unfolding comment_of
-returns c = c.got.ensures ∙ ap (λ (e : Ended). got_of (MultilineComment e.closed) c.args.start e.end) (c.comment_end-ended.ensures ∙ comment_untested c.args.comments c.args.s.now c.args.at c.pass_untested.result c.pass_untested.ensures)
+returns c = c.got.ensures ∙ ap (λ (e : Ended). got_of (MultilineComment e.closed) c.args.start e.end) (c.comment_end-end.ensures ∙ comment_untested c.args.comments c.args.s.now c.args.at c.pass_untested.result c.pass_untested.ensures)

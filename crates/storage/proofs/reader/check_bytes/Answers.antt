@@ -1,58 +1,47 @@
-use mathlib.Core.Path.{sym, ◌∙◌}
-use native.Mathlib.Omega.{arith}
-use lib.ListN.{length}
-use Rattle.rows.proofs.Rows.{walk_end, walk_first, walk_more, walk_stop}
-use Rattle.storage.proofs.ReadRecords.{bytes_checked, bytes_refused, bytes_row, bytes_unmarked, left_11, word_drop}
-use Rattle.storage.specs.Reader.{byte_row}
+use Rattle.std.specs.Prelude.{Err}
+use Rattle.std.proofs.lemmas.Result.{err_from_is_err_and}
+use Rattle.token.specs.declared.read.Refusal.{Refusal}
+use mathlib.Core.List.{List, [], map}
+use lib.ListN.{get_or}
+use mathlib.Core.Logic.{inl, inr}
+use mathlib.Core.Path.{◌≡◌, refl, sym, ap, ◌∙◌, subst}
+use Prim.Native.Nat.{ℕ, ◌+◌}
+use borrow.Author.Tests.{eq-eqb, eqb-true}
+use Rattle.laws.proofs.Cases.{never}
+use Rattle.rows.specs.declared.Record.{Record}
+use Rattle.rows.proofs.Rows.{LeftOf, left_end, left_more, left_stop}
+use Rattle.rows.specs.Rows.{rows_check}
+use Rattle.storage.proofs.ReadRecords.{bytes_checked, bytes_refused, marked, records_cut, unmarked}
+use Rattle.storage.specs.Reader.{byte_row, bytes_check}
+use Rattle.storage.proofs.reader.check_bytes.Goals.{Else-not-is_empty, then-bytes-ne-MARK_FIRST-via-then-bytes-ne-MARK_FIRST, then-bytes-ne-MARK_FIRST-via-else-bytes-ne-MARK_FIRST+then-bytes-ne-MARK_SECOND}
 use Rattle.storage.proofs.reader.check_bytes.Goals as goal
 
-pub returns-then-bytes-ne0 : goal.returns-then-bytes-ne0
-returns-then-bytes-ne0 c = c.faulty.ensures ∙ bytes_refused _ c.if-bytes-ne0.true
+-- the check of the arrays is that of the bytes
+arrays : (c : Else-not-is_empty) → rows_check 0 0 (map byte_row c.as_chunks.result.0.now) ≡ bytes_check c.args.bytes.now
+arrays c =
+    ap (λ (rs : List (List ℕ)). rows_check 0 0 (map byte_row rs)) c.as_chunks.ensures.front ∙ ap (rows_check 0 0) (records_cut c.args.bytes.now)
+    ∙ bytes_checked c.args.bytes.now (sym c.as_chunks.ensures.back_len ∙ eqb-true _ _ (sym c.if-not-is_empty.ensures))
 
-pub loop-at-init : goal.loop-at-init
-loop-at-init c = walk_first byte_row 11 _ c.if-bytes-ne0.false
+pub returns-then-not-is_empty : goal.returns-then-not-is_empty
+returns-then-not-is_empty c = c.faulty.ensures ∙ bytes_refused c.args.bytes.now (λ z. never (let a = c.if-not-is_empty.ensures in let b = c.as_chunks.ensures.back_len in let e = eq-eqb _ _ (b ∙ z) in cc))
 
-pub returns-then-bytes-at-ne84 : goal.returns-then-bytes-at-ne84
-returns-then-bytes-at-ne84 c = walk_stop byte_row 11 c.args.bytes.now c.loop-at.at c.loop-at.n c.loop-at.last c.loop-at.invariant (left_11 (length c.args.bytes.now) c.loop-at.at c.loop-at-test.true c.loop-at.invariant.whole) c.faulty-then-bytes-at-ne84.result (c.faulty-then-bytes-at-ne84.ensures ∙ bytes_unmarked c.args.bytes.now c.loop-at.at c.loop-at.n c.loop-at.last c.if-bytes-at-ne84.true) _ c.faulty-then-bytes-at-ne84.ensures ∙ bytes_checked _ c.if-bytes-ne0.false
+pub loop-n-init : goal.loop-n-init
+loop-n-init c = refl
 
-pub overflow_add-at : goal.overflow_add-at
-overflow_add-at c = omega (arith, (left_11 (length c.args.bytes.now) c.loop-at.at c.loop-at-test.true c.loop-at.invariant.whole).room, c.well_formed)
+pub returns-then-bytes-ne-MARK_FIRST : goal.returns-then-bytes-ne-MARK_FIRST
+returns-then-bytes-ne-MARK_FIRST c =
+    c.faulty-then-bytes-ne-MARK_FIRST.ensures ∙ left_stop byte_row _ _ _ c.loop-n.invariant c.loop-n-test.true _ (unmarked (get_or c.as_chunks.result.0.now c.loop-n.n []) _ c.loop-n.last (elim c.then-bytes-ne-MARK_FIRST.branch [ then-bytes-ne-MARK_FIRST-via-then-bytes-ne-MARK_FIRST w ↦ inl w.if-bytes-ne-MARK_FIRST.true | then-bytes-ne-MARK_FIRST-via-else-bytes-ne-MARK_FIRST+then-bytes-ne-MARK_SECOND w ↦ inr w.if-bytes-ne-MARK_SECOND.true ])) ∙ arrays (goal.at.returns-then-bytes-ne-MARK_FIRST c).Else-not-is_empty
 
-pub bounds-bytes-at-in-loop-at : goal.bounds-bytes-at-in-loop-at
-bounds-bytes-at-in-loop-at c = omega (arith, (left_11 (length c.args.bytes.now) c.loop-at.at c.loop-at-test.true c.loop-at.invariant.whole).room, c.well_formed)
+pub returns-in_err-check : goal.returns-in_err-check
+returns-in_err-check c =
+    let q = err_from_is_err_and _ c.from_residual.ensures.1 in
+    q.1 ∙ ap (λ (r : Refusal). Err r) q.2
+    ∙ left_stop byte_row _ _ _ c.loop-n.invariant c.loop-n-test.true _ (c.in_err-check.ensures ∙ marked (get_or c.as_chunks.result.0.now c.loop-n.n []) _ _ c.if-bytes-ne-MARK_FIRST.false c.if-bytes-ne-MARK_SECOND.false _ c.record_in-record.ensures) ∙ arrays (goal.at.returns-in_err-check c).Else-not-is_empty
 
-pub overflow_add-at-in-loop-at : goal.overflow_add-at-in-loop-at
-overflow_add-at-in-loop-at c = omega (arith, (left_11 (length c.args.bytes.now) c.loop-at.at c.loop-at-test.true c.loop-at.invariant.whole).room, c.well_formed)
-
-pub word_at-start-requires : goal.word_at-start-requires
-word_at-start-requires c = omega (arith, (left_11 (length c.args.bytes.now) c.loop-at.at c.loop-at-test.true c.loop-at.invariant.whole).room, c.well_formed)
-
-pub overflow_add-at-in-loop-at-2 : goal.overflow_add-at-in-loop-at-2
-overflow_add-at-in-loop-at-2 c = omega (arith, (left_11 (length c.args.bytes.now) c.loop-at.at c.loop-at-test.true c.loop-at.invariant.whole).room, c.well_formed)
-
-pub word_at-end-requires : goal.word_at-end-requires
-word_at-end-requires c = omega (arith, (left_11 (length c.args.bytes.now) c.loop-at.at c.loop-at-test.true c.loop-at.invariant.whole).room, c.well_formed)
-
-pub overflow_add-at-in-loop-at-3 : goal.overflow_add-at-in-loop-at-3
-overflow_add-at-in-loop-at-3 c = omega (arith, (left_11 (length c.args.bytes.now) c.loop-at.at c.loop-at-test.true c.loop-at.invariant.whole).room, c.well_formed)
-
-pub bounds-bytes-at-in-loop-at-2 : goal.bounds-bytes-at-in-loop-at-2
-bounds-bytes-at-in-loop-at-2 c = omega (arith, (left_11 (length c.args.bytes.now) c.loop-at.at c.loop-at-test.true c.loop-at.invariant.whole).room, c.well_formed)
-
-pub returns-in_default : goal.returns-in_default
-returns-in_default c = walk_stop byte_row 11 c.args.bytes.now c.loop-at.at c.loop-at.n c.loop-at.last c.loop-at.invariant (left_11 (length c.args.bytes.now) c.loop-at.at c.loop-at-test.true c.loop-at.invariant.whole) c.check_record-checked.result (c.check_record-checked.ensures ∙ bytes_row c.args.bytes.now c.loop-at.at c.loop-at.n c.loop-at.last _ _ _ c.word.ensures c.word_at-start.ensures c.word_at-end.ensures c.if-bytes-at-ne84.false (omega arith)) _ c.in_default.is ∙ bytes_checked _ c.if-bytes-ne0.false
-
-pub overflow_add-at-in-loop-at-4 : goal.overflow_add-at-in-loop-at-4
-overflow_add-at-in-loop-at-4 c = omega (arith, (left_11 (length c.args.bytes.now) c.loop-at.at c.loop-at-test.true c.loop-at.invariant.whole).room, c.well_formed)
-
-pub overflow_add-n : goal.overflow_add-n
-overflow_add-n c = omega (arith, (left_11 (length c.args.bytes.now) c.loop-at.at c.loop-at-test.true c.loop-at.invariant.whole).room, c.loop-at.invariant.few)
-
-pub loop-at-smaller : goal.loop-at-smaller
-loop-at-smaller c = omega (arith, (left_11 (length c.args.bytes.now) c.loop-at.at c.loop-at-test.true c.loop-at.invariant.whole).room, c.well_formed)
-
-pub loop-at-preserved : goal.loop-at-preserved
-loop-at-preserved c = walk_more byte_row 11 c.args.bytes.now c.loop-at.at c.loop-at.n c.loop-at.last c.loop-at.invariant (left_11 (length c.args.bytes.now) c.loop-at.at c.loop-at-test.true c.loop-at.invariant.whole) c.check_record-checked.result (c.check_record-checked.ensures ∙ bytes_row c.args.bytes.now c.loop-at.at c.loop-at.n c.loop-at.last _ _ _ c.word.ensures c.word_at-start.ensures c.word_at-end.ensures c.if-bytes-at-ne84.false (omega arith)) _ c.in-Good.is (c.word_at-end.ensures ∙ sym (word_drop c.args.bytes.now c.loop-at.at 7)) (omega arith)
+pub loop-n-preserved : goal.loop-n-preserved
+loop-n-preserved c =
+    let m = left_more byte_row _ _ _ c.loop-n.invariant c.loop-n-test.true (c.in_ok-check.ensures ∙ marked (get_or c.as_chunks.result.0.now c.loop-n.n []) _ _ c.if-bytes-ne-MARK_FIRST.false c.if-bytes-ne-MARK_SECOND.false _ c.record_in-record.ensures) in
+    subst (λ (k : ℕ). LeftOf byte_row c.as_chunks.result.0.now (c.loop-n.n + 1) k) (sym (ap (λ (t : Record). t.end) c.record_in-record.ensures)) m
 
 pub returns : goal.returns
-returns c = walk_end byte_row 11 c.args.bytes.now c.loop-at.at c.loop-at.n c.loop-at.last c.loop-at.invariant (omega (arith, c.loop-at-test.false)) ∙ bytes_checked _ c.if-bytes-ne0.false
+returns c = left_end byte_row _ _ _ c.loop-n.invariant c.loop-n-test.false ∙ arrays (goal.at.returns c).Else-not-is_empty

@@ -129,4 +129,4 @@ pub returns-in-Bad : goal.returns-in-Bad
 returns-in-Bad c =
     let a = goal.at.returns-in-Bad c in
     let m = run a.After-run_end-p in
-    c.stopped.ensures ∙ measured_bad _ _ _ _ m _ _ ((other a.Else-s-p m _ c.begin_at.ensures).bad _ _ c.in-Bad.is)
+    c.refuse.ensures ∙ measured_bad _ _ _ _ m _ _ ((other a.Else-s-p m _ c.begin_at.ensures).bad _ _ c.in-Bad.is)

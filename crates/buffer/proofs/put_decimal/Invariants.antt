@@ -1,9 +1,0 @@
--- The place of the digit falls. Assumes nothing.
-use Rattle.std.proofs.Common.{◌≤◌}
-use Rattle.buffer.proofs.put_decimal.Given as goal
-
-abbrev pub invariant-loop-i : goal.invariant-loop-i
-invariant-loop-i l = l.i ≤ 20
-
-abbrev pub decreases-loop-i : goal.decreases-loop-i
-decreases-loop-i l = l.i

@@ -1,5 +1,0 @@
--- A tenth of ten or more is less. Assumes nothing.
-use Rattle.lines.proofs.+put_digits.Given as goal
-
-abbrev pub decreases-put_digits : goal.decreases-put_digits
-decreases-put_digits l = l.number

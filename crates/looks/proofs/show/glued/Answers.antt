@@ -1,0 +1,28 @@
+use Prim.Native.Nat.{ℕ}
+use mathlib.Core.Path.{sym, ap, ◌∙◌}
+use Rattle.std.proofs.lemmas.Result.{err_from_is_err_and}
+use Rattle.std.specs.Prelude.{Err}
+use Rattle.std.specs.Prelude.{Ok}
+use Rattle.looks.proofs.Turns.{zeros}
+use Rattle.looks.specs.declared.look.Done.{Done}
+use Rattle.looks.proofs.Answers.{asked_no, asked_yes}
+use Rattle.looks.specs.Buffer.{view_of}
+use Rattle.looks.specs.Answer.{done}
+use Rattle.looks.specs.Calls.{Turn, glued_by, glued_kind, shows}
+use Rattle.looks.proofs.show.glued.Goals as goal
+
+pub returns-in_err-ready_at : goal.returns-in_err-ready_at
+unfolding glued_by
+returns-in_err-ready_at c =
+    let st = view_of c.args.state.now in
+    let p = err_from_is_err_and c.from_residual.result c.from_residual.ensures.1 in
+    let w = asked_no c.args.tested c.args.list.now c.args.n st (λ f. shows (glued_kind c.args.list.now c.args.n f.nums f.held f.counts) f) _ c.ready_at.ensures.1 _ (sym c.ready_at.ensures.0 ∙ c.in_err-ready_at.was) in
+    (w.0, p.1 ∙ ap Err p.2 ∙ w.1)
+
+pub returns : goal.returns
+unfolding glued_by
+returns c =
+    let st = view_of c.args.state.now in
+    let none = zeros c.default.result c.default.ensures.0 c.default.ensures.1.0 c.default.ensures.1.1.0 c.default.ensures.1.1.1 in
+    let w = asked_yes c.args.tested c.args.list.now c.args.n st (λ f. shows (glued_kind c.args.list.now c.args.n f.nums f.held f.counts) f) _ c.ready_at.ensures.1 (sym c.ready_at.ensures.0 ∙ c.in_ok-ready_at.was) in
+    (ap (λ (t : Turn). t.state) w, ap (λ (d : Done). Ok (record { count = d.count; value = c.glued_kind.result; start = d.start; end = d.end })) none ∙ ap (λ (k : ℕ). done 0 k 0 0) c.glued_kind.ensures ∙ ap (λ (t : Turn). t.answer) w)

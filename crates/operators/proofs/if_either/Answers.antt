@@ -1,8 +1,0 @@
-use borrow.Author.Tests.{eq-eqb, ne_eqb}
-use Rattle.operators.proofs.if_either.Goals as goal
-
-pub returns-then-b-c : goal.returns-then-b-c
-returns-then-b-c c = simp (eq-eqb _ _ c.if-b-c.true)
-
-pub returns-else-b-c : goal.returns-else-b-c
-returns-else-b-c c = simp (ne_eqb _ _ c.if-b-c.false) c.if_is.ensures

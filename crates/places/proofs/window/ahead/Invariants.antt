@@ -1,9 +1,0 @@
--- The scalars left fall. Assumes nothing.
-use Prim.Native.Nat.{◌-◌}
-use Rattle.places.proofs.window.ahead.Given as goal
-
-abbrev pub invariant-loop-count : goal.invariant-loop-count
-invariant-loop-count l = Unit {0}
-
-abbrev pub decreases-loop-count : goal.decreases-loop-count
-decreases-loop-count l = l.most - l.count

@@ -1,0 +1,18 @@
+-- Each token ends past its start and inside the source. Assumes nothing.
+use Rattle.std.proofs.Common.{arith}
+use Rattle.families.proofs.Steps.{tokens_past, tokens_room}
+use Rattle.printing.proofs.put_tokens.Goals as goal
+
+pub loop-token-smaller : goal.loop-token-smaller
+loop-token-smaller g c =
+    omega (
+      arith,
+      tokens_past c.args.reading c.args.s.now c.loop-token.at c.next-answer.result c.next-answer.ensures c.in-Ok.token c.in-Ok.is c.if-end-at.false,
+      tokens_room c.args.reading c.args.s.now c.loop-token.at c.next-answer.result c.next-answer.ensures c.in-Ok.token c.in-Ok.is c.if-end-at.false,
+    )
+
+pub loop-token-preserved : goal.loop-token-preserved
+loop-token-preserved g c = (
+  tokens_room c.args.reading c.args.s.now c.loop-token.at c.next-answer.result c.next-answer.ensures c.in-Ok.token c.in-Ok.is c.if-end-at.false,
+  omega (arith, tokens_past c.args.reading c.args.s.now c.loop-token.at c.next-answer.result c.next-answer.ensures c.in-Ok.token c.in-Ok.is c.if-end-at.false),
+)

@@ -1,6 +1,0 @@
--- The bytes left fall. Assumes nothing.
-use Rattle.std.proofs.Common.{◌-◌, length}
-use Rattle.report.proofs.json.put_string.Given as goal
-
-abbrev pub decreases-loop-i : goal.decreases-loop-i
-decreases-loop-i l = length l.bytes - l.i
