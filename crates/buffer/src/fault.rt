@@ -35,5 +35,7 @@ pub fn tell(err: Stderr, what: &[u8], error: io::Error) {
         .rsplit_once(" (")
         .map_or("", |(front, _)| front);
     let _ = Print::write_all(&err, what);
-    let _ = println!(err; ": {why}");
+    let _ = Print::write_all(&err, b": ");
+    let _ = Print::write_all(&err, why.as_bytes());
+    let _ = Print::write_all(&err, b"\n");
 }

@@ -5,7 +5,9 @@
 pub mod fault;
 mod writer;
 
+ghost use Rattle.std.specs.Prelude.{◌≡◌, ◌≤◌, length};
 ghost use Rattle.std.specs.Io.{ReadsAtMost};
+ghost use Rattle.buffer.specs.Endings.{status_of};
 
 use std::fs::OpenOptions;
 use std::io;
@@ -35,6 +37,20 @@ pub fn fill<R: Read>(from: &mut R, into: &mut [u8]) -> io::Result<usize>
     Ok(count)
 }
 
+// Reads as `fill` does; how many bytes stand at the buffer's start now, also where a read failed.
+pub fn read_full<R: Read>(from: &mut R, into: &mut [u8]) -> usize
+    ensures { result ≤ length into.new }
+{
+    let mut count: usize = 0;
+    while count < into.len() {
+        match from.read(&mut into[count..]) {
+            Ok(more @ 1..) => count += more,
+            _ => break,
+        }
+    }
+    count
+}
+
 // Whether descriptor 3 is open for writing. The second line that the system tells of it are its flags, in octal: its mode is what the last digit leaves
 // over 4, and 0 is for reading alone.
 fn is_written_to(rt: &impl Files) -> io::Result<bool> {
@@ -56,8 +72,17 @@ pub enum Ending {
     Failed,
 }
 
-// Writes how the program ended to descriptor 3, as one digit. Where nobody opened it, nobody asks.
-pub fn leave(rt: &impl Files, ending: Ending) {
+impl From<Ending> for u8 {
+    ghost from_gives = { λ ending status. status ≡ status_of ending };
+
+    fn from(ending: Ending) -> u8 {
+        ending as u8
+    }
+}
+
+// Writes how the program ended to descriptor 3, as one digit: an ending, or a status, of which all above 1 are 2. Where nobody opened it, nobody asks.
+pub fn leave<S: Into<u8>>(rt: &impl Files, status: S) {
+    let status: u8 = status.into();
     if !is_written_to(rt).unwrap_or(false) {
         return;
     }
@@ -67,6 +92,6 @@ pub fn leave(rt: &impl Files, ending: Ending) {
         .append(true)
         .open(rt, "/proc/self/fd/3")
     {
-        let _ = file.write_all(&[b'0' + ending as u8]);
+        let _ = file.write_all(&[b'0' + status.min(2)]);
     }
 }

@@ -1,4 +1,4 @@
--- Below 0x80 a class is what the code tests: one computed test over all numbers there. A table of pairs holds what its list holds. Assumes nothing.
+-- The tables ascend. Below 0x80 a class is what the code tests: one computed test over all numbers there. A table of pairs holds what its list holds. Assumes nothing.
 use Prim.Native.Nat.{ℕ, ◌<◌}
 use mathlib.Core.Path.{◌≡◌, refl}
 use mathlib.Core.Bool.{Bool, true, false, ◌||◌}
@@ -7,7 +7,19 @@ use Rattle.classes.specs.Ascii.{ascii_continue, ascii_start, ascii_white, in_pai
 use Rattle.classes.specs.Classes.{is_white_space, is_xid_continue, is_xid_start, white_space, xid_continue, xid_start}
 use Rattle.laws.proofs.Tables.{below_same}
 use Rattle.laws.specs.Bools.{either, within}
-use Rattle.laws.specs.Tables.{every_below, in_ranges}
+use Rattle.laws.specs.Tables.{every_below, in_ranges, ordered}
+
+pub white_ordered : ordered 0 white_space ≡ true
+unfolding ordered white_space
+white_ordered = refl
+
+pub start_ordered : ordered 0 xid_start ≡ true
+unfolding ordered xid_start
+start_ordered = refl
+
+pub continue_ordered : ordered 0 xid_continue ≡ true
+unfolding ordered xid_continue
+continue_ordered = refl
 
 pub white_ascii : (v : ℕ) → v < 0x80 → ascii_white v ≡ is_white_space v
 unfolding in_ranges white_space every_below

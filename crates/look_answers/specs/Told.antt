@@ -5,11 +5,14 @@ use Rattle.looks.specs.declared.look.Done.{Done}
 use Rattle.looks.specs.declared.look.Stop.{Stop}
 
 -- the result: the number of a refusal, 0 where there is none
+abbrev pub number_by : {S : Type 0} → (S → ℕ) → Result Done S → ℕ
+number_by number (Ok done) = 0
+number_by number (Err stop) = number stop
+
 abbrev pub number_told : Result Done Stop → ℕ
-number_told (Ok done) = 0
-number_told (Err stop) = number_of stop
+number_told looked = number_by number_of looked
 
 -- the record: value, count, start, end, reached; a refusal has no place
-abbrev pub words_told : Result Done Stop → List ℕ
+abbrev pub words_told : {S : Type 0} → Result Done S → List ℕ
 words_told (Ok done) = done.value ∷ done.count ∷ done.start ∷ done.end ∷ 0 ∷ []
 words_told (Err stop) = 0 ∷ 0 ∷ 0 ∷ 0 ∷ 0 ∷ []

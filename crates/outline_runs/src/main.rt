@@ -81,6 +81,6 @@ fn main(rt: HostRuntime) {
     let to = rt.stdout();
     try_random(to);
     let mut file = [0u8; 4096];
-    let got = buffer::fill(&mut rt.stdin(), &mut file).unwrap_or(0);
+    let got = buffer::read_full(&mut rt.stdin(), &mut file);
     try_damaged(to, &file[..got]);
 }

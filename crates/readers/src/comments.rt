@@ -2,7 +2,7 @@
 ghost use Rattle.std.specs.Prelude.{ℕ, Bool, ◌≡◌};
 ghost use Rattle.classes.specs.Classes.{is_white_space};
 ghost use Rattle.readers.specs.Passing.{pass_one, untested};
-ghost use Rattle.readers.specs.Readers.{Tests, comment_end, comment_of, in_line, run};
+ghost use Rattle.readers.specs.Readers.{comment_end, comment_of, in_line, run};
 ghost use Rattle.readers.specs.Rules.{skip_of};
 ghost use Rattle.text.specs.Utf8.{rest, width};
 
@@ -11,17 +11,44 @@ use text::Scalar;
 use text::character::LINE_FEED;
 use token::{Kind, Refusal, Token};
 
+// A test of scalars; `passing` is its definition.
+pub trait Test {
+    ghost passing: { ℕ → Bool };
+
+    fn passes(v: u32) -> bool
+        ensures { result ≡ passing v };
+}
+
+struct WhiteSpace;
+
+impl Test for WhiteSpace {
+    ghost passing = { is_white_space };
+
+    fn passes(v: u32) -> bool {
+        classes::is_whitespace(v)
+    }
+}
+
+struct InLine;
+
+impl Test for InLine {
+    ghost passing = { in_line };
+
+    fn passes(v: u32) -> bool {
+        v != LINE_FEED
+    }
+}
+
 // The place where the run of scalars that pass a test ends.
-pub fn run_end<F: Fn(u32) -> bool>(s: &[u8], at: usize, passes: F) -> usize
-    requires { F.IsAlwaysCallable passes }
-    ensures { (f : ℕ → Bool) → Tests (F.post passes) f → result ≡ run width f (rest s.now at) at }
+pub fn run_end<T: Test>(s: &[u8], at: usize) -> usize
+    ensures { result ≡ run width T.passing (rest s.now at) at }
 {
     let mut p = at;
     loop {
         let Some(Scalar { value, next }) = text::scalar_at(s, p) else {
             return p;
         };
-        if !passes(value) {
+        if !T::passes(value) {
             return p;
         }
         p = next;
@@ -32,14 +59,14 @@ pub fn run_end<F: Fn(u32) -> bool>(s: &[u8], at: usize, passes: F) -> usize
 pub fn consume_whitespace(s: &[u8], at: usize) -> usize
     ensures { result ≡ run width is_white_space (rest s.now at) at }
 {
-    run_end(s, at, classes::is_whitespace)
+    run_end::<WhiteSpace>(s, at)
 }
 
 // The place of the next LF, or the end.
 pub fn consume_line(s: &[u8], at: usize) -> usize
     ensures { result ≡ run width in_line (rest s.now at) at }
 {
-    run_end(s, at, |v| v != LINE_FEED)
+    run_end::<InLine>(s, at)
 }
 
 // The place after a scalar, or the same place where there is none.

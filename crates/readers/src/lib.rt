@@ -6,7 +6,7 @@ mod escape;
 mod number;
 mod reading;
 
-pub use comments::{consume_line, consume_whitespace, next_multiline_comment, run_end};
+pub use comments::{Test, consume_line, consume_whitespace, next_multiline_comment, run_end};
 pub use escape::escaped_end;
 pub use number::Part;
 pub use reading::{Comments, Reading};

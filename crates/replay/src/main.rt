@@ -3,9 +3,8 @@
 // list.answers, with numbers.frames and numbers.answers after them.
 #![tactic(auto)]
 
-use buffer::{Writer, fill};
+use buffer::{Writer, read_full};
 use readers::{Comments, Reading};
-use std::io;
 use std::io::{Read, Stdin};
 
 type Out = Writer<65536>;
@@ -21,37 +20,46 @@ fn read_head(from: &mut Stdin) -> Option<usize> {
     Some(u32::from_le_bytes([a, b, c, d]) as usize)
 }
 
-// The frame's answer and a line `.`. A payload that does not fit is over-long in any case: its front is listed.
-fn answer(from: &mut Stdin, length: usize, source: &mut [u8], out: &mut Out) -> io::Result<()> {
+// Reads past what an over-long payload has beyond the lent bytes, by way of them.
+fn skip(from: &mut Stdin, source: &mut [u8], count: usize) {
+    let mut left = count;
+    while source.len() < left {
+        if read_full(from, source) == 0 {
+            return;
+        }
+        left -= source.len();
+    }
+    read_full(from, &mut source[..left]);
+}
+
+// The frame's answer and a line `.`. A payload that does not fit is over-long in any case: its front is listed, and so is what came before a read that failed.
+fn answer(from: &mut Stdin, length: usize, source: &mut [u8], out: &mut Out) {
     let held = length.min(source.len());
-    let got = fill(from, &mut source[..held])?;
+    let got = read_full(from, &mut source[..held]);
     let reading = Reading {
         comments: Comments::Crate,
     };
     let _ = printing::list(out, &source[..got], reading);
+    skip(from, source, length - held);
     out.put_bytes(b".\n");
-    let mut rest = from.take((length - held) as u64);
-    io::copy(&mut rest, &mut io::sink())?;
-    Ok(())
 }
 
 // Nothing says that the input ends: the number of turns falls. Where nobody reads the answers there are no more.
-fn answer_all(from: &mut Stdin, source: &mut [u8], out: &mut Out) -> io::Result<()> {
+fn answer_all(from: &mut Stdin, source: &mut [u8], out: &mut Out) {
     for _ in 0..u64::MAX {
         let Some(length) = read_head(from) else {
             break;
         };
-        answer(from, length, source, out)?;
+        answer(from, length, source, out);
         if out.is_left() {
             break;
         }
     }
-    Ok(())
 }
 
 fn main(rt: HostRuntime) {
     let mut source = [0u8; 65537];
     let mut out = Out::new(rt.stdout());
-    let _ = answer_all(&mut rt.stdin(), &mut source, &mut out);
+    answer_all(&mut rt.stdin(), &mut source, &mut out);
     let _ = out.flush();
 }

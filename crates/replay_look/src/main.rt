@@ -63,7 +63,7 @@ fn answer(
     }
 }
 
-// A frame's answer and a line `.`; nothing where there was none, or nobody reads.
+// A frame's answer and a line `.`; nothing where there was none, or nobody reads. A source that is longer than its payload goes on in what stood there before.
 fn turn(
     from: &mut Stdin,
     to: Stdout,
@@ -72,8 +72,7 @@ fn turn(
     written: &mut [u32; 12288],
 ) -> Option<()> {
     let frame = read_head(from)?;
-    let payload = payload.get_mut(..frame.end)?;
-    from.read_exact(payload).ok()?;
+    from.read_exact(payload.get_mut(..frame.end)?).ok()?;
     let source = places::part(payload, 0, frame.source);
     let script = places::part(payload, frame.source, frame.end);
     let mut out = Page::new(to);

@@ -1,1 +1,2 @@
+pub mod Matters
 pub mod Severities

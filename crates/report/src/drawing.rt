@@ -58,7 +58,7 @@ fn put_carets(out: &mut Page, bytes: &[u8]) {
     put_under(out, scalars.0, b'^');
 }
 
-fn put_if(out: &mut Page, asked: bool, bytes: &[u8]) {
+pub fn put_if(out: &mut Page, asked: bool, bytes: &[u8]) {
     if asked {
         out.put_bytes(bytes);
     }

@@ -1,6 +1,9 @@
 // What is told: a finding or a refusal.
 ghost use Rattle.std.specs.Prelude.{◌≡◌};
+ghost use Rattle.report.specs.Matters.{matter_of};
 ghost use Rattle.report.specs.Severities.{severity_of};
+ghost use Rattle.token.specs.Reads.{reason_number};
+ghost use Rattle.token.specs.declared.reason.Reason.{Reason};
 
 use crate::ink::Ink;
 use std::fmt;
@@ -65,6 +68,43 @@ impl Matter {
             Matter::Refusal { .. } | Matter::ByteOrderMark => Severity::Error,
             Matter::RunsOn { bare: true, .. } => Severity::Note,
             _ => Severity::Warning,
+        }
+    }
+}
+
+// By the number of its texts. A number that is no finding's is a refusal's.
+impl From<u32> for Matter {
+    ghost from_gives = { λ number matter. (reason : Reason) → reason_number reason ≡ number → matter ≡ matter_of number reason };
+
+    fn from(number: u32) -> Matter {
+        match number {
+            60 => Matter::RunsOn {
+                body: Body::Comment,
+                bare: false,
+            },
+            61 => Matter::RunsOn {
+                body: Body::Comment,
+                bare: true,
+            },
+            62 => Matter::ReadAsCode,
+            63 => Matter::Unclosed {
+                body: Body::Comment,
+            },
+            64 => Matter::Unclosed {
+                body: Body::Template,
+            },
+            65 => Matter::ByteOrderMark,
+            160 => Matter::RunsOn {
+                body: Body::Template,
+                bare: false,
+            },
+            161 => Matter::RunsOn {
+                body: Body::Template,
+                bare: true,
+            },
+            _ => Matter::Refusal {
+                reason: Reason::from(number),
+            },
         }
     }
 }

@@ -14,6 +14,7 @@ mod stretch;
 mod template;
 mod told;
 
+pub use drawing::put_if;
 pub use finding::{Body, Finding, Matter, Severity};
 pub use json::put_json;
 pub use source::Source;

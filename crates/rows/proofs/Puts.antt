@@ -54,7 +54,7 @@ module _ (put : List Row → List ℕ) (one : Row → List ℕ) (each : ℕ) (y 
     pub puts_room : at + each ≤ length out
     puts_room = let r = w.room in omega (arith, puts_length)
 
-    puts_more : (out₁ : List ℕ) (at₁ : ℕ) → out₁ ≡ sets out at (one (row (get_or rs n []))) → at₁ ≡ at + each → Puts put row rs out₀ out₁ (n + 1) at₁
+    pub puts_more : (out₁ : List ℕ) (at₁ : ℕ) → out₁ ≡ sets out at (one (row (get_or rs n []))) → at₁ ≡ at + each → Puts put row rs out₀ out₁ (n + 1) at₁
     puts_more out₁ at₁ e a =
         let long = ap length e ∙ length-sets out at (one (row (get_or rs n []))) in
         let r = w.room in

@@ -1,14 +1,15 @@
 -- The records that the reader checks, and the tokens that it puts, word by word. Assumes nothing.
 use Rattle.std.specs.Prelude.{Err, Ok}
 use Rattle.token.specs.declared.reason.Reason.TheVariants.{BadLength, BadMark}
-use Prim.Native.Nat.{ℕ, zero, suc, ◌*◌, ◌/◌, ◌%◌, ◌<◌}
+use Prim.Native.Nat.{ℕ, zero, suc, ◌+◌, ◌*◌, ◌/◌, ◌%◌, ◌<◌}
 use mathlib.Core.Path.{◌≡◌, refl, ◌∙◌}
-use mathlib.Core.List.{List, map}
+use mathlib.Core.List.{List, [], ◌∷◌, map}
 use mathlib.Core.Logic.{inl, inr, ◌⊎◌}
 use native.Mathlib.Omega.{arith}
 use Rattle.std.proofs.lemmas.List.{get_or-take}
 use Rattle.std.specs.Simd.{first_chunks}
-use lib.ListN.{drop, get_or, length, take}
+use lib.Seq.{sets}
+use lib.ListN.{drop, get_or, length, set, take}
 use borrow.Author.Tests.{eq-eqb, ne_eqb}
 use Rattle.laws.proofs.Cases.{both_false, never, split_eq}
 use Rattle.rows.proofs.Puts.{Layout}
@@ -59,3 +60,10 @@ pub length_tokens : (row : List ℕ → Row) (size n : ℕ) (s : List ℕ) → l
 unfolding list_words rows_of
 length_tokens row size zero s = refl
 length_tokens row size (suc n) s = let h = length_tokens row size n (drop size s) in omega arith
+
+-- stores one after the other
+pub three_stores : (out : List ℕ) (p a b c : ℕ) → set (set (set out p a) (p + 1) b) (p + 2) c ≡ sets out p (a ∷ (b ∷ (c ∷ [])))
+three_stores out p a b c =
+    let e₁ : p + 1 ≡ suc p = omega arith in
+    let e₂ : p + 2 ≡ suc (suc p) = omega arith in
+    rw (e₁, e₂)

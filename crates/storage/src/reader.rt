@@ -48,7 +48,9 @@ fn put_words(bytes: &[u8], out: &mut [u32])
     for (n, bytes) in records.iter().enumerate() {
         let Record { kind, start, end } = record_in(bytes);
         let at = n * ROW;
-        out[at..at + ROW].copy_from_slice(&[kind, start, end]);
+        out[at] = kind;
+        out[at + 1] = start;
+        out[at + 2] = end;
     }
 }
 

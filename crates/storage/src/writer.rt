@@ -1,21 +1,40 @@
 // The writer of the stored token list: three words a token into records of 11 bytes.
 // It answers the first refusal and then writes nothing; later bytes keep their content.
-ghost use Rattle.std.specs.Prelude.{◌%◌, ◌≤◌, ◌≡◌, length};
+ghost use Rattle.std.specs.Prelude.{◌+◌, ◌%◌, ◌≤◌, ◌≡◌, length};
 ghost use Rattle.std.proofs.lemmas.List.Edits.{sets};
 ghost use Rattle.rows.specs.Rows.{list_rows};
-ghost use Rattle.storage.specs.Writer.{record_of, records_of, write_of, written_by};
+ghost use Rattle.storage.specs.Writer.{record_of, records_of, u32_bytes, write_of, written_by};
 
 use crate::{MARK_FIRST, MARK_SECOND, RECORD};
-use rows::{ROW, Record};
+use rows::ROW;
 use token::{Reason, Refusal};
 
-fn record_of(record: Record) -> [u8; RECORD]
-    ensures { result ≡ record_of record.kind record.start record.end }
+fn low_byte(w: u32) -> u8
+    ensures { result ≡ w % 256 }
 {
-    let kind = (record.kind % 256) as u8;
-    let [a, b, c, d] = record.start.to_le_bytes();
-    let [e, f, g, h] = record.end.to_le_bytes();
-    [MARK_FIRST, MARK_SECOND, kind, a, b, c, d, e, f, g, h]
+    (w % 256) as u8
+}
+
+// Byte by byte, since a record that is copied to its place from an array goes through memory: docs/SPEED.md has what that costs.
+fn put_word(out: &mut [u8], at: usize, w: u32)
+    requires { at + 4 ≤ length out.old }
+    ensures { out.new ≡ sets out.old at (u32_bytes w) }
+{
+    out[at] = low_byte(w);
+    out[at + 1] = low_byte(w / 256);
+    out[at + 2] = low_byte(w / 65536);
+    out[at + 3] = low_byte(w / 16777216);
+}
+
+fn put_record(out: &mut [u8], at: usize, kind: u32, start: u32, end: u32)
+    requires { at + 11 ≤ length out.old }
+    ensures { out.new ≡ sets out.old at (record_of kind start end) }
+{
+    out[at] = MARK_FIRST;
+    out[at + 1] = MARK_SECOND;
+    out[at + 2] = low_byte(kind);
+    put_word(out, at + 3, start);
+    put_word(out, at + 7, end);
 }
 
 fn put_records(list: &[u32], out: &mut [u8])
@@ -25,8 +44,7 @@ fn put_records(list: &[u32], out: &mut [u8])
     let (rows, _) = list.as_chunks::<ROW>();
     for (n, row) in rows.iter().enumerate() {
         let [kind, start, end] = *row;
-        let at = n * RECORD;
-        out[at..at + RECORD].copy_from_slice(&record_of(Record { kind, start, end }));
+        put_record(out, n * RECORD, kind, start, end);
     }
 }
 

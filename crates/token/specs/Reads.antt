@@ -1,11 +1,11 @@
 -- Document 01, "How one token is read" and "Refusal numbers and places": what a token reader answers.
-use Rattle.std.specs.Prelude.{ℕ, Result, Ok, Err}
+use Rattle.std.specs.Prelude.{ℕ, Result, Ok, Err, refl}
 use Rattle.token.specs.declared.kind.Kind.{Kind}
 use Rattle.token.specs.declared.read.Refusal.{Refusal}
 use Rattle.token.specs.declared.read.Span.{Span}
 use Rattle.token.specs.declared.read.Token.{Token}
 use Rattle.token.specs.declared.reason.Reason.{Reason}
-use Rattle.token.specs.declared.reason.Reason.TheVariants.{TooLong, IllFormed, NoRoom, NoPlace, NoSuchForm, NoSuchReading, ExpectedEscape, UnterminatedCharLit, ExpectedCharClose, ExpectedCharOrLabel, ExpectedByteClose, UnterminatedByteLit, UnterminatedStrLit, UnterminatedByteStrLit, UnexpectedChar, TooDeep, BadEscapeSequence, BadUnicodeEscapeInByteString, BadUnicodeEscape, BadHexEscapeChar, BadByteEscape, NotAscii, OutputShort, NotOneItem, BadLength, BadMark, BadKind, Gap}
+use Rattle.token.specs.declared.reason.Reason.TheVariants.{TooLong, IllFormed, NoRoom, NoPlace, NoSuchForm, NoSuchReading, ExpectedEscape, UnterminatedCharLit, ExpectedCharClose, ExpectedCharOrLabel, ExpectedByteClose, UnterminatedByteLit, UnterminatedStrLit, UnterminatedByteStrLit, UnexpectedChar, TooDeep, BadEscapeSequence, BadUnicodeEscapeInByteString, BadUnicodeEscape, BadHexEscapeChar, BadByteEscape, NotAscii, OutputShort, NotOneItem, BadLength, BadMark, BadKind, Gap, Other}
 
 -- a token or a refusal
 abbrev pub Read : Type 0
@@ -49,6 +49,7 @@ reason_number BadLength = 40
 reason_number BadMark = 41
 reason_number BadKind = 42
 reason_number Gap = 43
+reason_number (Other n) = n.number
 
 -- a span in bytes, from start to before end
 abbrev pub span_of : ℕ → ℕ → Span
@@ -73,6 +74,11 @@ point_refusal reason p = record { reason = reason; span = point_of p; reached = 
 -- a refusal's number
 abbrev pub number_in : Refusal → ℕ
 number_in r = reason_number r.reason
+
+-- the refusal that was answered; of a token none, which is number 0 at its end
+abbrev pub refusal_in : Read → Refusal
+refusal_in (Ok k) = point_refusal (Other (record { number = 0; other = refl })) k.span.end
+refusal_in (Err r) = r
 
 -- the number of the refusal that was answered; 0 of a token
 abbrev pub refusal_number : Read → ℕ

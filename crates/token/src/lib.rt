@@ -2,9 +2,11 @@
 #![tactic(auto)]
 
 mod kind;
+mod other;
 mod read;
 mod reason;
 
 pub use kind::{Bracket, Kind};
-pub use read::{Refusal, Span, Token, got, point, refused};
+pub use other::OtherNumber;
+pub use read::{Refusal, Span, Token, got, point, refusal_in, refused};
 pub use reason::Reason;

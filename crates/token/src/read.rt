@@ -1,8 +1,9 @@
 // A token with its span, and a refusal with its reason, its span and the place reached.
 ghost use Rattle.std.specs.Prelude.{◌≡◌};
-ghost use Rattle.token.specs.Reads.{got_of, point_refusal, refused_of};
+ghost use Rattle.token.specs.Reads.{got_of, point_refusal, refusal_in, refused_of};
 
 use crate::kind::Kind;
+use crate::other::OtherNumber;
 use crate::reason::Reason;
 
 // Bytes from start to before end; a point where the two are equal.
@@ -53,4 +54,19 @@ pub fn refused(reason: Reason, start: usize, end: usize, reached: usize) -> Resu
         span: Span { start, end },
         reached,
     })
+}
+
+// The refusal of an answer; of a token, one with number 0 at its end.
+pub fn refusal_in(answer: Result<Token, Refusal>) -> Refusal
+    ensures { result ≡ refusal_in answer }
+{
+    match answer {
+        Ok(token) => point(
+            Reason::Other {
+                number: OtherNumber { number: 0 },
+            },
+            token.span.end,
+        ),
+        Err(refusal) => refusal,
+    }
 }

@@ -3,7 +3,7 @@ ghost use Rattle.std.specs.Prelude.{◌≡◌, true};
 ghost use Rattle.readers.specs.Numbers.{begins_digit, first_part, in_digits, in_number, is_base, joins, number_lit_of, part_on, part_past_dot, past_digits, takes_sign};
 ghost use Rattle.text.specs.Utf8.{first, rest, width};
 
-use readers::Part;
+use readers::{Part, Test};
 use text::Scalar;
 use text::character::{
     CAPITAL_E, DIGIT_ZERO, DOT, LETTER_B, LETTER_E, LETTER_O, LETTER_X, MINUS, PLUS, UNDERSCORE,
@@ -22,6 +22,16 @@ fn in_digits(v: u32) -> bool
     ensures { result ≡ in_digits v }
 {
     v == UNDERSCORE || classes::is_ascii_digit(v)
+}
+
+struct InDigits;
+
+impl Test for InDigits {
+    ghost passing = { in_digits };
+
+    fn passes(v: u32) -> bool {
+        in_digits(v)
+    }
 }
 
 fn digit_at(s: &[u8], at: usize) -> bool
@@ -115,7 +125,7 @@ pub fn next_number_literal(s: &[u8], first: u32, start: usize, at: usize) -> Res
             p = next;
         } else if joins(whole, part, value) && digit_at(s, next) {
             if value != DOT {
-                return token::got(Kind::Number, start, readers::run_end(s, next, in_digits));
+                return token::got(Kind::Number, start, readers::run_end::<InDigits>(s, next));
             }
             whole = false;
             part = past_dot(part);

@@ -5,11 +5,8 @@ use Rattle.templates.proofs.Turns.{after_deep, after_got, after_refused, body_cl
 use Rattle.templates.specs.Body.{template_of, token_of}
 use Rattle.text.proofs.Decode.{step_none, step_one}
 use Rattle.text.specs.Utf8.{rest}
-use Rattle.token.proofs.Reasons.{reason_one}
-use Rattle.token.specs.Reads.{reached_of, reason_number}
-use Rattle.token.specs.contracts.reason.Reason.{the_type}
-use Rattle.token.specs.declared.reason.Reason.TheVariants.{TooDeep}
-use denote.Enum.Bare.{same_false, same_true}
+use Rattle.token.specs.Reads.{reached_of}
+use borrow.Author.Tests.{eqb-false, eqb-true}
 use Rattle.templates.proofs.+read_template_read_token.Goals as goal
 
 pub read_template-loop-value-init : goal.read_template-loop-value-init
@@ -50,13 +47,13 @@ pub read_template-loop-value-preserved-in-Ok : goal.read_template-loop-value-pre
 read_template-loop-value-preserved-in-Ok t c = (after_got c.args.reading c.args.depth c.args.start c.args.s.now c.loop-value.p c.loop-value.level c.in-Some.field-0.value c.in-Some.field-0.next (step_one c.args.s.now c.loop-value.p c.in-Some.field-0.value c.in-Some.field-0.next (sym c.scalar_at.ensures ∙ c.in-Some.is)) c.if-value-eq-BACKSLASH.true c.read_token.result c.read_token.ensures c.in-Ok.token c.in-Ok.is ∙ c.loop-value.invariant.0, c.loop-value.invariant.1)
 
 pub read_template-returns-then-eq : goal.read_template-returns-then-eq
-read_template-returns-then-eq t c = c.refused.ensures ∙ after_deep c.args.reading c.args.depth c.args.start c.args.s.now c.loop-value.p c.loop-value.level c.in-Some.field-0.value c.in-Some.field-0.next (step_one c.args.s.now c.loop-value.p c.in-Some.field-0.value c.in-Some.field-0.next (sym c.scalar_at.ensures ∙ c.in-Some.is)) c.if-value-eq-BACKSLASH.true c.read_token.result c.read_token.ensures c.in-Err.field-0 c.in-Err.is (ap reason_number (same_true the_type tt _ TooDeep (sym c.eq.ensures ∙ c.if-eq.true))) ∙ c.loop-value.invariant.0
+read_template-returns-then-eq t c = c.refused.ensures ∙ after_deep c.args.reading c.args.depth c.args.start c.args.s.now c.loop-value.p c.loop-value.level c.in-Some.field-0.value c.in-Some.field-0.next (step_one c.args.s.now c.loop-value.p c.in-Some.field-0.value c.in-Some.field-0.next (sym c.scalar_at.ensures ∙ c.in-Some.is)) c.if-value-eq-BACKSLASH.true c.read_token.result c.read_token.ensures c.in-Err.field-0 c.in-Err.is (eqb-true _ 19 (sym c.eq.ensures ∙ c.if-eq.true)) ∙ c.loop-value.invariant.0
 
 pub read_template-loop-value-smaller-in-Err : goal.read_template-loop-value-smaller-in-Err
 read_template-loop-value-smaller-in-Err t c = let e = ap reached_of c.in-Err.is in omega (arith, reached_past c.args.reading c.args.depth c.args.start c.args.s.now c.loop-value.p c.loop-value.level c.in-Some.field-0.value c.in-Some.field-0.next (step_one c.args.s.now c.loop-value.p c.in-Some.field-0.value c.in-Some.field-0.next (sym c.scalar_at.ensures ∙ c.in-Some.is)) c.if-value-eq-BACKSLASH.true c.read_token.result c.read_token.ensures, reached_room c.args.reading c.args.depth c.args.start c.args.s.now c.loop-value.p c.loop-value.level c.in-Some.field-0.value c.in-Some.field-0.next (step_one c.args.s.now c.loop-value.p c.in-Some.field-0.value c.in-Some.field-0.next (sym c.scalar_at.ensures ∙ c.in-Some.is)) c.if-value-eq-BACKSLASH.true c.read_token.result c.read_token.ensures)
 
 pub read_template-loop-value-preserved-in-Err : goal.read_template-loop-value-preserved-in-Err
-read_template-loop-value-preserved-in-Err t c = (after_refused c.args.reading c.args.depth c.args.start c.args.s.now c.loop-value.p c.loop-value.level c.in-Some.field-0.value c.in-Some.field-0.next (step_one c.args.s.now c.loop-value.p c.in-Some.field-0.value c.in-Some.field-0.next (sym c.scalar_at.ensures ∙ c.in-Some.is)) c.if-value-eq-BACKSLASH.true c.read_token.result c.read_token.ensures c.in-Err.field-0 c.in-Err.is (λ h. same_false the_type _ TooDeep (sym c.eq.ensures ∙ c.if-eq.false) (reason_one _ TooDeep h)) ∙ c.loop-value.invariant.0, c.loop-value.invariant.1)
+read_template-loop-value-preserved-in-Err t c = (after_refused c.args.reading c.args.depth c.args.start c.args.s.now c.loop-value.p c.loop-value.level c.in-Some.field-0.value c.in-Some.field-0.next (step_one c.args.s.now c.loop-value.p c.in-Some.field-0.value c.in-Some.field-0.next (sym c.scalar_at.ensures ∙ c.in-Some.is)) c.if-value-eq-BACKSLASH.true c.read_token.result c.read_token.ensures c.in-Err.field-0 c.in-Err.is (eqb-false _ 19 (sym c.eq.ensures ∙ c.if-eq.false)) ∙ c.loop-value.invariant.0, c.loop-value.invariant.1)
 
 pub read_template-loop-value-smaller : goal.read_template-loop-value-smaller
 read_template-loop-value-smaller t c = let k = (step_one c.args.s.now c.loop-value.p c.in-Some.field-0.value c.in-Some.field-0.next (sym c.scalar_at.ensures ∙ c.in-Some.is)) in omega arith
