@@ -2,7 +2,7 @@
 ghost use Rattle.std.specs.Prelude.{ℕ, Bool, ◌≡◌};
 ghost use Rattle.classes.specs.Classes.{is_white_space};
 ghost use Rattle.readers.specs.Passing.{pass_one, untested};
-ghost use Rattle.readers.specs.Readers.{comment_end, comment_of, in_line, run};
+ghost use Rattle.readers.specs.Readers.{Tests, comment_end, comment_of, in_line, run};
 ghost use Rattle.readers.specs.Rules.{skip_of};
 ghost use Rattle.text.specs.Utf8.{rest, width};
 
@@ -40,7 +40,7 @@ impl Test for InLine {
 }
 
 // The place where the run of scalars that pass a test ends.
-pub fn run_end<T: Test>(s: &[u8], at: usize) -> usize
+pub fn run_end_by<T: Test>(s: &[u8], at: usize) -> usize
     ensures { result ≡ run width T.passing (rest s.now at) at }
 {
     let mut p = at;
@@ -55,18 +55,35 @@ pub fn run_end<T: Test>(s: &[u8], at: usize) -> usize
     }
 }
 
+// The same by a closure, which may hold values, as a type may not: it has to be one that may be called, and a type asks nothing.
+pub fn run_end<F: Fn(u32) -> bool>(s: &[u8], at: usize, passes: F) -> usize
+    requires { F.IsAlwaysCallable passes }
+    ensures { (f : ℕ → Bool) → Tests (F.post passes) f → result ≡ run width f (rest s.now at) at }
+{
+    let mut p = at;
+    loop {
+        let Some(Scalar { value, next }) = text::scalar_at(s, p) else {
+            return p;
+        };
+        if !passes(value) {
+            return p;
+        }
+        p = next;
+    }
+}
+
 // The place where the white space at a place ends.
 pub fn consume_whitespace(s: &[u8], at: usize) -> usize
     ensures { result ≡ run width is_white_space (rest s.now at) at }
 {
-    run_end::<WhiteSpace>(s, at)
+    run_end_by::<WhiteSpace>(s, at)
 }
 
 // The place of the next LF, or the end.
 pub fn consume_line(s: &[u8], at: usize) -> usize
     ensures { result ≡ run width in_line (rest s.now at) at }
 {
-    run_end::<InLine>(s, at)
+    run_end_by::<InLine>(s, at)
 }
 
 // The place after a scalar, or the same place where there is none.

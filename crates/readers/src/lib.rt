@@ -5,8 +5,12 @@ mod comments;
 mod escape;
 mod number;
 mod reading;
+#[cfg(test)]
+mod tests;
 
-pub use comments::{Test, consume_line, consume_whitespace, next_multiline_comment, run_end};
+pub use comments::{
+    Test, consume_line, consume_whitespace, next_multiline_comment, run_end, run_end_by,
+};
 pub use escape::escaped_end;
 pub use number::Part;
 pub use reading::{Comments, Reading};

@@ -23,7 +23,7 @@ impl Test for InWord {
 pub fn next_ident(s: &[u8], first: u32, start: usize, at: usize) -> Result<Token, Refusal>
     ensures { result ≡ word_of width is_xid_continue first start (rest s.now at) at }
 {
-    let end = readers::run_end::<InWord>(s, at);
+    let end = readers::run_end_by::<InWord>(s, at);
     if first == UNDERSCORE && end == at {
         token::got(Kind::Underscore, start, end)
     } else {

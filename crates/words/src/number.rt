@@ -125,7 +125,11 @@ pub fn next_number_literal(s: &[u8], first: u32, start: usize, at: usize) -> Res
             p = next;
         } else if joins(whole, part, value) && digit_at(s, next) {
             if value != DOT {
-                return token::got(Kind::Number, start, readers::run_end::<InDigits>(s, next));
+                return token::got(
+                    Kind::Number,
+                    start,
+                    readers::run_end_by::<InDigits>(s, next),
+                );
             }
             whole = false;
             part = past_dot(part);

@@ -38,7 +38,7 @@ returns-else-joins c =
 
 pub returns-then-value-ne-DOT : goal.returns-then-value-ne-DOT
 unfolding number_lit_of number_end
-returns-then-value-ne-DOT c = c.got-then-value-ne-DOT.ensures ∙ ap (got_of Number c.args.start) (c.run_end.ensures ∙ signed_run width (rest c.args.s.now c.in-Some.field-0.next) c.in-Some.field-0.next ∙ goes_place number_step signed c.args.s.now c.in-Some.field-0.next (scan number_step width (unsigned true (first_part c.args.first)) c.args.at (rest c.args.s.now c.args.at) c.args.at) (goes_on number_step (unsigned c.loop-value.whole c.loop-value.part) c.args.s.now c.loop-value.p (scan number_step width (unsigned true (first_part c.args.first)) c.args.at (rest c.args.s.now c.args.at) c.args.at) c.loop-value.invariant c.in-Some.field-0.value c.in-Some.field-0.next (step_one c.args.s.now c.loop-value.p c.in-Some.field-0.value c.in-Some.field-0.next (sym c.scalar_at.ensures ∙ c.in-Some.is)) signed (number_sign c.in-Some.field-0.value (rest c.args.s.now c.in-Some.field-0.next) c.loop-value.whole c.loop-value.part (sym c.in_number.ensures ∙ c.if-in_number.false) (sym c.joins.ensures ∙ c.if-joins.true) (sym c.digit_at.ensures ∙ c.if-digit_at.true) c.if-value-ne-DOT.true)) c.in-Some.field-0.next)
+returns-then-value-ne-DOT c = c.got-then-value-ne-DOT.ensures ∙ ap (got_of Number c.args.start) (c.run_end_by.ensures ∙ signed_run width (rest c.args.s.now c.in-Some.field-0.next) c.in-Some.field-0.next ∙ goes_place number_step signed c.args.s.now c.in-Some.field-0.next (scan number_step width (unsigned true (first_part c.args.first)) c.args.at (rest c.args.s.now c.args.at) c.args.at) (goes_on number_step (unsigned c.loop-value.whole c.loop-value.part) c.args.s.now c.loop-value.p (scan number_step width (unsigned true (first_part c.args.first)) c.args.at (rest c.args.s.now c.args.at) c.args.at) c.loop-value.invariant c.in-Some.field-0.value c.in-Some.field-0.next (step_one c.args.s.now c.loop-value.p c.in-Some.field-0.value c.in-Some.field-0.next (sym c.scalar_at.ensures ∙ c.in-Some.is)) signed (number_sign c.in-Some.field-0.value (rest c.args.s.now c.in-Some.field-0.next) c.loop-value.whole c.loop-value.part (sym c.in_number.ensures ∙ c.if-in_number.false) (sym c.joins.ensures ∙ c.if-joins.true) (sym c.digit_at.ensures ∙ c.if-digit_at.true) c.if-value-ne-DOT.true)) c.in-Some.field-0.next)
 
 pub loop-value-smaller : goal.loop-value-smaller
 loop-value-smaller c = let t = (step_one c.args.s.now c.loop-value.p c.in-Some.field-0.value c.in-Some.field-0.next (sym c.scalar_at.ensures ∙ c.in-Some.is)) in omega arith
