@@ -1,12 +1,12 @@
 -- Reading refuses with 10 to 18, or with 19 from the token's start to after a backtick; never with 1 to 4, which are of a source or a place. Assumes nothing.
-use Rattle.std.specs.Prelude.{Err, Ok}
+use Rattle.std.specs.Prelude.{Err, Ok, ◌≤◌}
 use Rattle.token.specs.Reads.{Read}
 use Rattle.token.specs.Reads.{number_in}
 use Prim.Native.Nat.{ℕ, zero, suc, ◌+◌}
 use mathlib.Core.Path.{◌≡◌, refl, ap}
 use mathlib.Core.List.{List, [], ◌∷◌}
 use mathlib.Core.Bool.{Bool, true, false}
-use mathlib.Core.Logic.{inl, inr}
+use mathlib.Core.Logic.{inl, inr, ⊎_elim}
 use native.Mathlib.Omega.{arith}
 use lib.Dec.{ltb, eqb}
 use lib.ListN.{length}
@@ -25,8 +25,10 @@ use Rattle.readers.specs.Readers.{Bytes, Chars, Quoted, backslashed, body, broke
 use Rattle.readers.specs.Rules.{Rules, rules_of}
 use Rattle.readers.specs.Scan.{How, ended, full, scan, short}
 use Rattle.readers.specs.declared.reading.Reading.{Reading}
+use Rattle.source_test.specs.Source.{sound_to, source_test}
 use Rattle.templates.specs.Body.{go_on, template_body, template_of, token_of, too_deep}
 use Rattle.text.specs.Utf8.{rest}
+use Rattle.token.specs.Named.{is_named}
 use Rattle.token.specs.declared.kind.Kind.TheVariants.{Comment, Shebang}
 use Rattle.token.specs.declared.read.Refusal.{Refusal}
 
@@ -132,6 +134,24 @@ module _ (R : Rules) where
 pub next_refusal : (g : Reading) (s : List ℕ) (at : ℕ) (r : Refusal) → next_at g s at ≡ Err r → Numbered (rules_of g) at (rest s at) at r
 unfolding next_at
 next_refusal g s at r e = rw e at (next_refusals (rules_of g) (length s) (rest s at) at)
+
+-- the numbers that reading refuses with name a reason
+reads_named : (n : ℕ) → 10 ≤ n → n ≤ 19 → is_named n ≡ true
+reads_named n l h = grind arith
+
+-- so a token's refusal names one
+pub next_named : (g : Reading) (s : List ℕ) (at : ℕ) (r : Refusal) → next_at g s at ≡ Err r → is_named (number_in r) ≡ true
+next_named g s at r e =
+    ⊎_elim (λ h. let w = within_inv 10 18 (number_in r) h in reads_named (number_in r) (omega arith) (omega arith))
+    (λ h. reads_named (number_in r) (omega (arith, h.number)) (omega (arith, h.number)))
+    (next_refusal g s at r e)
+
+-- and so does a source's
+pub source_named : (s : List ℕ) (r : Refusal) → source_test s ≡ Err r → is_named (number_in r) ≡ true
+unfolding source_test
+source_named s r e =
+    split (ltb 65536 (length s)) (λ t. let z = (rw t at e) in cc)
+    (λ t. split (eqb (sound_to s) (length s)) (λ u. let z = (rw (t, u) at e) in cc) (λ u. let z = (rw (t, u) at e) in cc))
 
 module _ (R : Rules) (n : ℕ) where
   each_numbered : (cs : List ℕ) (p : ℕ) (r : Read) (go : ℕ → Tokens) → Refuses R p cs p r → ((t : ℕ) → NumberedEnd (go t)) → NumberedEnd (each_of r go)

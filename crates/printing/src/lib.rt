@@ -2,6 +2,13 @@
 // Every function here is safe and ends, and each line is made by `lines`, which promises its bytes. What reaches standard output no contract can say: runs show it.
 #![tactic(auto)]
 
+#[cfg(test)]
+mod tests;
+
+ghost use Rattle.std.specs.Prelude.{IfErr, ◌≡◌, true};
+ghost use Rattle.token.specs.Named.{is_named};
+ghost use Rattle.token.specs.Reads.{number_in};
+
 use buffer::Writer;
 use lines::Line;
 use readers::Reading;
@@ -16,7 +23,9 @@ fn put_tokens<const ROOM: usize>(
     out: &mut Writer<ROOM>,
     s: &[u8],
     reading: Reading,
-) -> Result<usize, Refusal> {
+) -> Result<usize, Refusal>
+    ensures { IfErr result (λ refusal. is_named (number_in refusal) ≡ true) }
+{
     let mut at: usize = 0;
     let mut count: usize = 0;
     loop {
@@ -42,7 +51,9 @@ fn put_source<const ROOM: usize>(
     out: &mut Writer<ROOM>,
     s: &[u8],
     reading: Reading,
-) -> Result<usize, Refusal> {
+) -> Result<usize, Refusal>
+    ensures { IfErr result (λ refusal. is_named (number_in refusal) ≡ true) }
+{
     source_test::test_source(s)?;
     put_tokens(out, s, reading)
 }
@@ -52,7 +63,9 @@ pub fn list<const ROOM: usize>(
     out: &mut Writer<ROOM>,
     s: &[u8],
     reading: Reading,
-) -> Result<(), Refusal> {
+) -> Result<(), Refusal>
+    ensures { IfErr result (λ refusal. is_named (number_in refusal) ≡ true) }
+{
     match put_source(out, s, reading) {
         Ok(count) => {
             put_line(out, &lines::end_line(count));
