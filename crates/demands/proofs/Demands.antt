@@ -64,7 +64,7 @@ use Rattle.looks.specs.declared.look.Stop.{Stop}
 use Rattle.storage.proofs.Refused.{read_refusal as load_refusal, read_no_room, read_nothing, write_no_room, write_nothing, write_refusal}
 use Rattle.demands.proofs.Refused.{all_refuse, list_front, list_no_place, list_nothing, list_refusal, list_stored, outline_no_place, outline_nothing, outline_refusal, read_misplaced, read_refusal, test_ill, test_long, test_refuses}
 
--- Demand 1. Every public call answers on every input and ends: Rattle proves that of every function, and no public one has a `requires`.
+-- Demand 1. Every public call answers on every input and ends: Rattle proves that of every function, and no public one has a `requires` but `readers::run_end`, which asks that its closure may be called, and which no call of a user reaches.
 
 -- What is over-long is refused with 1 at 0, what is ill-formed with 2 at its first bad sequence: by every call that takes a source, which then writes nothing.
 pub over_long : (s : List ℕ) → 65536 < length s → AllRefuse s (point_refusal TooLong 0)
