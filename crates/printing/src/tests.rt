@@ -1,4 +1,4 @@
-// Which reason a refusal has no contract says: these are document 01's numbers.
+// The contract of `list` does not say which reason a refusal has: these are document 01's numbers.
 use crate::list;
 use buffer::Writer;
 use readers::{Comments, Reading};
