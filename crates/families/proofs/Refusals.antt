@@ -1,4 +1,4 @@
--- Reading refuses with 10 to 18, or with 19 from the token's start to after a backtick; never with 1 to 4, which are of a source or a place. Assumes nothing.
+-- Reading refuses with 10 to 18, or with 19 from the token's start to after a backtick; never with 1 to 4, which are of a source or a place. Each of these numbers names a reason, and so does that of a source. Assumes nothing.
 use Rattle.std.specs.Prelude.{Err, Ok, ◌≤◌}
 use Rattle.token.specs.Reads.{Read}
 use Rattle.token.specs.Reads.{number_in}

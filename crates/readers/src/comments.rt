@@ -55,7 +55,7 @@ pub fn run_end_by<T: Test>(s: &[u8], at: usize) -> usize
     }
 }
 
-// The same by a closure, which may hold values, as a type may not: it has to be one that may be called, and a type asks nothing.
+// The same by a closure. It may hold a value, which a type cannot, and has to be one that may be called.
 pub fn run_end<F: Fn(u32) -> bool>(s: &[u8], at: usize, passes: F) -> usize
     requires { F.IsAlwaysCallable passes }
     ensures { (f : ℕ → Bool) → Tests (F.post passes) f → result ≡ run width f (rest s.now at) at }
